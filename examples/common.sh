@@ -6,7 +6,7 @@ VOLUME=${VOLUME:-272M}
 PART=${PART:-64M}
 
 root=$(cd "$(dirname "${BASH_SOURCE[0]}")/.." && pwd)
-program=$(realpath "${REENCD:-$root/crates/reencd/out/reencd}")
+program=$(realpath -m "${REENCD:-$root/crates/reencd/out/reencd}")
 [ -x "$program" ] || { echo "there is no program $program: rt ci builds it"; exit 1; }
 room=$(mktemp -d)
 

@@ -3,7 +3,7 @@
 . "$(dirname "$0")/common.sh"
 needs nbdcopy cmp
 
-printf 'a passphrase' >key && truncate -s 64M volume.img
+printf 'a passphrase' >key && truncate -s $VOLUME volume.img
 reencd format volume.img --key-file key
 reencd serve volume.img --key-file key --listen 127.0.0.1:$PORT 2>said &
 while kill -0 $! && ! grep -qs listening said; do sleep 0.1; done

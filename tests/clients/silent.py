@@ -31,7 +31,8 @@ def gone_after(port, sent):
 def negotiation(port):
     """Two clients that never come through the negotiation: the one silent, the other slow. A third is met
     once they are gone."""
-    slow = [struct.pack(">I", 3)] + [bytes([byte]) for byte in b"IHAVEOPT" * 5]
+    option = b"IHAVEOPT" + struct.pack(">II", 7, 60) + bytes(60)
+    slow = [struct.pack(">I", 3)] + [bytes([byte]) for byte in option]
     seconds = []
     threads = [
         threading.Thread(target=lambda sent=sent: seconds.append(gone_after(port, sent)))

@@ -87,8 +87,9 @@ keeps tailed.img 8 "fault 8 NoFit" "--atom 512" init tailed.img --key-file key -
 grep -q 1536 err || fail "init doesn't say how many bytes: $(cat err)"
 cp tailed.img begun_by_512.img
 "$reencd" init begun_by_512.img --key-file key --iterations 1000 --atom 512 >/dev/null 2>&1 || fail "init by 512"
-keeps begun_by_512.img 8 "fault 8 NoFit" "--atom 512" resume begun_by_512.img --key-file key
-keeps begun_by_512.img 8 "fault 8 NoFit" "--atom 512" serve begun_by_512.img --key-file key --listen stdio
+# (by atoms of 4096 bytes the volume that is being converted passes the last whole one)
+keeps begun_by_512.img 4 "fault 4 Header" "another --atom" resume begun_by_512.img --key-file key
+keeps begun_by_512.img 4 "fault 4 Header" "another --atom" serve begun_by_512.img --key-file key --listen stdio
 keeps tailed.img 0 "served 1 sessions" 1536 serve tailed.img --key-file key --listen stdio
 truncate -s 5000 short.img
 says 0 "served 1 sessions" 904 serve short.img --plain --listen stdio
@@ -145,8 +146,11 @@ if device=$(losetup -f --show whole.img 2>/dev/null); then
     fi
     "$reencd" format "$device" --key-file key --iterations 1000 >/dev/null || fail "format of a free device"
     "$reencd" status "$device" >/dev/null || fail "status of a free device"
-    if command -v sfdisk >/dev/null && echo "2048,,L" | sfdisk -q --wipe always "$device" 2>/dev/null &&
-        losetup -d "$device" && device=$(losetup -P -f --show whole.img) && [ -b "${device}p1" ]; then
+    losetup -d "$device"
+    # one partition, from the 2048th sector on, as a table of the old kind has it
+    printf '\0\0\0\0\203\0\0\0\0\010\0\0\040\116\0\0' | dd of=whole.img bs=1 seek=446 conv=notrunc status=none
+    printf '\125\252' | dd of=whole.img bs=1 seek=510 conv=notrunc status=none
+    if device=$(losetup -P -f --show whole.img) && [ -b "${device}p1" ]; then
         undo=("losetup -d $device" "${undo[@]}")
         if mke2fs -q "${device}p1" && mount -o ro "${device}p1" mounted 2>/dev/null; then
             undo=("umount mounted" "${undo[@]}")

@@ -27,7 +27,7 @@ def judged(name, part):
 def main(words):
     if importlib.util.find_spec("cryptography") is None:
         print("the rows aren't judged: there is no module cryptography")
-        return 0
+        return 77
     writes, all_names = "--write" in words, scripts.names()
     wanted = [word for word in words if word != "--write"] or all_names
     if not set(wanted) <= set(all_names):

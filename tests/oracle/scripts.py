@@ -1,6 +1,6 @@
-"""The scripts of the crate `rows`, and what each line of theirs comes to that shows something. A command of
-which this implementation says nothing is passed over, and so are those behind it up to the next disk,
-where it left another one."""
+"""The scripts of the crate `rows`, and what each line of theirs comes to that shows something. A
+command of which this implementation says nothing is passed over, and so are those behind it up
+to the next disk, where it left another one."""
 
 import os
 import re
@@ -9,7 +9,7 @@ from .luks.ciphers import sum_of
 from .luks.vectors import value
 from .machine import running
 from .machine.script import Next, World
-from .words import NotJudged
+from .words import Faulty, NotJudged, asked
 
 ROOT = os.path.normpath(os.path.join(os.path.abspath(__file__), "../../.."))
 CRATE = os.path.join(ROOT, "crates/rows")
@@ -56,11 +56,24 @@ def passed_over(world, word, there):
             shelf.bytes = None
 
 
+def told_of(words, there):
+    """What a person is told of words: where they are no command's, what is there."""
+    try:
+        asked(words)
+        return ["taken"]
+    except Faulty as found:
+        if not there:
+            raise NotJudged from found
+        return ["faulty"] if there == ["taken"] else there
+
+
 def come_to(world, line, there):
     """What a line comes to."""
     word, _, words = line.partition(" ")
     if word in ("run", "loose"):
         return running.run(world, words, word == "loose", there)
+    if word == "words":
+        return told_of(words.split(" ") if words else [], there)
     if word == "value":
         what, *words = words.split(" ")
         return [running.spelt(value(what, words, world.spelt))]
@@ -70,8 +83,8 @@ def come_to(world, line, there):
 
 
 class Script:
-    """What a script comes to, beside what is printed of it; how many of its lines are judged, and how many
-    are passed over."""
+    """What a script comes to, beside what is printed of it; how many of its lines are judged,
+    and how many are passed over."""
 
     def __init__(self, name, part):
         self.lines, self.judged, self.passed = [f"{name}.rows"], 0, 0
@@ -93,5 +106,5 @@ class Script:
         self.lines += [line, *(f"  {one}" for one in found)]
         if word in ("run", "loose") and words.startswith(("format", "init")):
             self.world.first = (self.world.first + 32) % 256
-        if word not in ("value", "metadata"):
+        if word not in ("words", "value", "metadata"):
             self.world.next = Next()

@@ -11,3 +11,4 @@ pub mod RowLemmas
 pub mod StartLemmas
 pub mod TakenLemmas
 pub mod ValueLemmas
+pub mod HelpLemmas

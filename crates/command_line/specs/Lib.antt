@@ -7,3 +7,4 @@ pub mod Resumes
 pub mod Segments
 pub mod Starts
 pub mod Values
+pub mod Helps

@@ -1,8 +1,11 @@
 // What a person is told of the words of a command line: help, the version, and what is wrong with
 // them.
 
-ghost use Rattle.std.specs.Prelude.{◌≡◌, map, string_bytes, IfOk, IfSome, is_none, is_some, None};
+ghost use Rattle.std.specs.Prelude.{◌≡◌, true, map, string_bytes, IfOk, IfSome, is_none, is_some};
+ghost use Rattle.std.specs.Prelude.{None};
+ghost use Rattle.std.specs.List.{list_any};
 ghost use Rattle.command_line.specs.Commands.{asked};
+ghost use Rattle.command_line.specs.Helps.{is_help_word};
 
 use crate::command::{Reason, read};
 use crate::product::{command_named, product};
@@ -78,13 +81,22 @@ fn asks_version(words: &[String]) -> bool {
     }
 }
 
-/// The text that the words ask for, where they ask for help or for the version; such words ask for
-/// no command.
-///
-/// # Errors
-///
-/// Memory was wanted.
-pub fn asked_help(alloc: Global, words: &[String]) -> Result<Option<String>, AllocError>
+/// Whether a word asks for help or for the version.
+fn is_help_word(word: &str) -> bool
+    ensures { result ≡ is_help_word word.now }
+{
+    word == "help" || word == "--help" || word == "-h" || word == "--version" || word == "-V"
+}
+
+/// Whether one of the words asks for help or for the version.
+fn has_help_word(words: &[String]) -> bool
+    ensures { result ≡ list_any (λ word. is_help_word (string_bytes word)) words.now }
+{
+    words.iter().any(|word| is_help_word(word.as_str()))
+}
+
+/// Help or the version, where `clap` finds that the words ask for it.
+fn help_text(alloc: Global, words: &[String]) -> Result<Option<String>, AllocError>
     ensures { IfOk result (λ text. IfSome text
         (λ _. asked (map string_bytes words.now) ≡ None)) }
 {
@@ -102,4 +114,23 @@ pub fn asked_help(alloc: Global, words: &[String]) -> Result<Option<String>, All
         }
         Err(Reason::Values(_)) => Ok(None),
     }
+}
+
+/// The text that the words ask for, where they ask for help or for the version; such words ask for
+/// no command, and one of them is `help`, `--help`, `-h`, `--version` or `-V`.
+///
+/// # Errors
+///
+/// Memory was wanted.
+#[tactic(auto, using(crate::proofs::HelpLemmas::told_where))]
+pub fn asked_help(alloc: Global, words: &[String]) -> Result<Option<String>, AllocError>
+    ensures none { IfOk result (λ text. IfSome text
+        (λ _. asked (map string_bytes words.now) ≡ None)) }
+    ensures words { IfOk result (λ text. IfSome text
+        (λ _. list_any (λ word. is_help_word (string_bytes word)) words.now ≡ true)) }
+{
+    if has_help_word(words) {
+        return help_text(alloc, words);
+    }
+    Ok(None)
 }

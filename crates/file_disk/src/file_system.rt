@@ -149,8 +149,9 @@ pub fn open_locked<S: FileSystem>(system: &S, path: &str) -> io::Result<(S::Open
         Ok(()) => {}
         Err(error) => return Err(error),
     }
-    if let Err(error) = system.check_unused(&file) {
-        return Err(error);
+    match system.check_unused(&file) {
+        Ok(()) => {}
+        Err(error) => return Err(error),
     }
     match file.measure() {
         Ok(len) => Ok((file, len)),

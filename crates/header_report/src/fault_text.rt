@@ -44,7 +44,7 @@ const SUPPORTED: &str =
 fn cure_of(fault: &RuleFault) -> &'static str {
     match fault {
         RuleFault::AreaBounds | RuleFault::SegmentGap => {
-            " (a detached header, a header backup, or a disk that was cut short?)"
+            " (a detached header, a header backup, a disk that was cut short, or another --atom?)"
         }
         RuleFault::SectorSize | RuleFault::NotAtomMultiple => " (another --atom may help)",
         _ => "",

@@ -137,7 +137,8 @@ pub record HasTakenUp {B D L : Type 0} (device : D → DiskState) (state : L →
 -- unless one of its calls failed, or memory was wanted once all was written by which it is opened. Where
 -- the keys of the sides were found, what the disk stood for under the passphrase it stood for under these,
 -- and each image since the first sync stands for it. Where no device call failed only memory was wanted, a
--- number or room for the header that was to follow.
+-- number or room for the header that was to follow, or bytes of the volume lie behind the last whole atom
+-- of the disk.
 pub record HasNoConversion {B D L : Type 0} (device : D → DiskState) (pass : List ℕ) (disk : D)
     (between new : B) (outcome : Outcome D L) : Type 0 where
   pub sector : DiskCipher Aes → ℕ

@@ -22,7 +22,7 @@ const MOST_PASSPHRASE_BYTES: u64 = 512;
 
 /// Why a command ended as it did. Where several causes hold, it is the first in the order of the
 /// command's steps; `Output` comes only in place of `Fine`.
-#[derive(Clone, Copy, PartialEq, Eq)]
+#[derive(Clone, Copy, Debug, PartialEq, Eq)]
 pub enum Cause<'w> {
     /// It did what it was asked: status 0. A session that failed, or a client's failed read,
     /// changes nothing in that.
@@ -64,7 +64,7 @@ pub enum Cause<'w> {
 }
 
 /// What failed of the outside.
-#[derive(Clone, Copy, PartialEq, Eq)]
+#[derive(Clone, Copy, Debug, PartialEq, Eq)]
 pub enum Failing {
     /// The bay gave no disk.
     Opening,
@@ -86,7 +86,7 @@ pub enum Failing {
 }
 
 /// What doesn't fit.
-#[derive(Clone, Copy, PartialEq, Eq)]
+#[derive(Clone, Copy, Debug, PartialEq, Eq)]
 pub enum Fit {
     /// The keyslot's area has more bytes than the keyslots area; or that ends at a byte which the
     /// disk of a detached header doesn't have; or an area of a conversion has more bytes than are

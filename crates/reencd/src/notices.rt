@@ -22,7 +22,7 @@ pub fn explain(alloc: Global, errors: Stderr, reason: &Reason<'_>) {
             what,
             number,
             limit,
-        } => explain_fit(errors, what, number, limit),
+        } => explain_fit(errors, what, number, limit, reason.refusal.is_some()),
         Cause::NoHeader
         | Cause::Header
         | Cause::Foreign
@@ -58,8 +58,9 @@ fn explain_usage(alloc: Global, errors: Stderr, words: &[String]) {
     }
 }
 
-/// Says in one line what doesn't fit, by the counted number and its limit.
-fn explain_fit(errors: Stderr, what: Fit, number: u64, limit: u64) {
+/// Says in one line what doesn't fit, by the counted number and its limit, and whether a conversion is
+/// under way.
+fn explain_fit(errors: Stderr, what: Fit, number: u64, limit: u64, midway: bool) {
     let _ = match what {
         Fit::Area => eprintln!(errors;
             "reencd: no room in the header's keyslots area: {number} bytes are wanted at one place, \
@@ -82,9 +83,9 @@ fn explain_fit(errors: Stderr, what: Fit, number: u64, limit: u64) {
             by default byte 16777216)"
         ),
         Fit::Tail => eprintln!(errors;
-            "reencd: tail: the last {number} bytes of the volume are in no whole atom of the disk, \
-            and a conversion wouldn't reach them{}",
-            tail_cure(number)
+            "reencd: tail: the disk has {number} bytes behind its last whole atom, which a conversion \
+            wouldn't reach: {}",
+            tail_cure(number, midway)
         ),
         Fit::Passphrase => eprintln!(errors;
             "reencd: the key file has {}, and a passphrase has 1 to 512",
@@ -93,12 +94,15 @@ fn explain_fit(errors: Stderr, what: Fit, number: u64, limit: u64) {
     };
 }
 
-/// What helps where so many bytes lie behind the last whole atom.
-fn tail_cure(bytes: u64) -> &'static str {
-    if bytes % 512 == 0 {
-        ": --atom 512 does"
+/// What helps where so many bytes lie behind the last whole atom. Atoms of another size are no help
+/// once a conversion is under way.
+fn tail_cure(bytes: u64, midway: bool) -> &'static str {
+    if midway {
+        "give the disk the size that it had when the conversion was begun"
+    } else if bytes % 512 == 0 {
+        "--atom 512 does, where sectors have 512 bytes; else cut the disk to whole atoms, or lengthen it"
     } else {
-        ""
+        "cut the disk to whole atoms, or lengthen it"
     }
 }
 

@@ -35,6 +35,7 @@ impl Drop for Refusal {
             Refusal::Idle => (),
             Refusal::Passphrase(_) => (),
             Refusal::Slots(_, fault) => drop(fault),
+            Refusal::Tail(_) => (),
             Refusal::Unopened(cause) => drop(cause),
         }
     }

@@ -14,6 +14,9 @@ use std::alloc::Global;
 /// The device calls that put a disk's bytes there before a command.
 const CALLS: u64 = 2;
 
+/// How often a disk is read behind a command until it gives its bytes.
+const TRIES: u64 = 16;
+
 /// The most atoms of a disk.
 const MOST_ATOMS: u64 = 8192;
 
@@ -37,7 +40,7 @@ pub(crate) enum Limit<'a> {
 }
 
 /// A disk of so many atoms, all of whose bytes are this one.
-pub(crate) fn shelf(alloc: Global, name: &str, atom: u64, atoms: u64, byte: u8) -> Result<Shelf> {
+pub(crate) fn new_shelf(alloc: Global, name: &str, atom: u64, atoms: u64, byte: u8) -> Result<Shelf> {
     if (atom != 512 && atom != 4096) || atoms > MOST_ATOMS {
         return Err(anyhow!("a disk of {atoms} atoms of {atom} bytes"));
     }
@@ -113,14 +116,16 @@ fn choice_of(alloc: Global, left: &str) -> Result<Choice>
     }
 }
 
-/// The bytes that a disk has.
+/// The bytes that a disk has, of which some calls that come may be to fail.
 fn bytes_on(alloc: Global, disk: MemDisk) -> Result<Vec<u8>> {
     let mut disk = disk;
     let mut bytes = zeros(alloc, disk.atoms() as usize * disk.atom() as usize)?;
-    match disk.read(0, bytes.as_mut_slice()) {
-        Ok(()) => Ok(bytes),
-        Err(_) => Err(anyhow!("a disk can't be read")),
+    for _ in 0..TRIES {
+        if disk.read(0, bytes.as_mut_slice()).is_ok() {
+            return Ok(bytes);
+        }
     }
+    Err(anyhow!("a disk can't be read"))
 }
 
 /// The bytes that a disk has (`held`), or those of an image that a stop may leave.
@@ -129,7 +134,7 @@ pub(crate) fn left_on(alloc: Global, disk: MemDisk, left: &str) -> Result<Vec<u8
         // a stop would keep it from being read
         let calls = disk.calls();
         let mut disk = disk;
-        disk.stop_after(calls.saturating_add(1));
+        disk.stop_after(calls.saturating_add(TRIES));
         return bytes_on(alloc, disk);
     }
     let choice = choice_of(alloc, left)?;

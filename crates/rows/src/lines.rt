@@ -163,7 +163,7 @@ pub(crate) fn line_of<'a>(alloc: Global, line: &'a str) -> Result<Line<'a>> {
         "words" => Ok(Line::Words(rest)),
         "value" => Ok(Line::Value(rest)),
         "metadata" => Ok(Line::Metadata(rest)),
-        _ => Ok(Line::Set(setting(alloc, word, rest)?)),
+        _ => Ok(Line::Set(settled(alloc, word, rest)?)),
     }
 }
 
@@ -254,7 +254,7 @@ fn copy<'a>(alloc: Global, name: &'a str, rest: &'a str) -> Result<Line<'a>> {
 }
 
 /// A line that settles something.
-fn setting<'a>(alloc: Global, word: &str, rest: &'a str) -> Result<Setting<'a>> {
+fn settled<'a>(alloc: Global, word: &str, rest: &'a str) -> Result<Setting<'a>> {
     let (first, second) = pair(rest);
     match word {
         "key" => Ok(Setting::Key {

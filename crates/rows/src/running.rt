@@ -1,20 +1,18 @@
 // Commands that are run.
 
-use crate::disks::{calls_of, left_on, sum_of};
-use crate::gates::ScriptGate;
+use crate::disks::{calls_of, left_on};
+use crate::meeting::ScriptGate;
+use crate::sessions::{put_of, sessions_of};
 use crate::world::World;
 use anyhow::{Result, anyhow};
 use base_terms::Bytes;
 use bays::{MemBay, MemLink};
 use io_edge::{FixedSeeds, ListSink, ListSource};
 use memory_disks::MemDisk;
-use reenc_tool::{Ended, FaultText, RefusalText, SessionEnd, explain_words, run};
+use reenc_tool::{Ended, FaultText, RefusalText, explain_words, run};
 use std::alloc::Global;
 use std::sync::Wait;
 use std::thread::Threads;
-
-/// The bytes that a client is put and that are told one by one.
-const TOLD: usize = 64;
 
 /// What a command came to.
 pub(crate) struct Outcome {
@@ -167,68 +165,6 @@ pub(crate) fn told_of_words(alloc: Global, line: &str) -> Result<String> {
     match explain_words(alloc, words.as_slice())? {
         None => Ok(String::from_str(alloc, "taken")?),
         Some(text) => Ok(String::from_str(alloc, text.as_str().lines().next().unwrap_or(""))?),
-    }
-}
-
-/// Bytes, as they are told: all of few, of more their SHA-256.
-pub(crate) fn put_text(alloc: Global, bytes: &[u8]) -> Result<String> {
-    if bytes.len() <= TOLD {
-        Ok(hex::encode(alloc, bytes)?)
-    } else {
-        sum_of(alloc, bytes)
-    }
-}
-
-/// Tells the sessions of a link, in their order.
-fn tell_link(
-    alloc: Global,
-    number: usize,
-    link: &MemLink,
-    ends: &[SessionEnd],
-    told: &mut Vec<String>,
-) -> Result<()> {
-    for (place, end) in ends.iter().enumerate() {
-        let Some((_, sink)) = link.handed().get(place) else {
-            return Err(anyhow!("a session whose connection wasn't handed back"));
-        };
-        let put = put_text(alloc, sink.as_slice())?;
-        let SessionEnd {
-            number: session,
-            ending,
-            taken,
-            put: count,
-        } = *end;
-        told.push(format!(in alloc;
-            "link {number}: {session} {ending:?}, taken {taken}, put {count} {put}"
-        )?)?;
-    }
-    Ok(())
-}
-
-/// How each session of a command ended.
-fn sessions_of(
-    alloc: Global,
-    sessions: &[Vec<SessionEnd>],
-    links: &[MemLink],
-) -> Result<Vec<String>> {
-    let mut told = Vec::new(alloc);
-    for (number, ends) in sessions.iter().enumerate() {
-        match links.get(number) {
-            Some(link) => tell_link(alloc, number, link, ends.as_slice(), &mut told)?,
-            None => return Err(anyhow!("sessions of no link")),
-        }
-    }
-    Ok(told)
-}
-
-/// What the first client of the first link was put.
-fn put_of(alloc: Global, links: &[MemLink]) -> Result<Vec<u8>> {
-    match links.first() {
-        Some(link) => match link.handed().first() {
-            Some((_, sink)) => Ok(Vec::from_slice(alloc, sink.as_slice())?),
-            None => Ok(Vec::new(alloc)),
-        },
-        None => Ok(Vec::new(alloc)),
     }
 }
 

@@ -4,6 +4,7 @@ use crate::disks::{Limit, disk_with, sum_of};
 use crate::running::{Outcome, run_on};
 use crate::world::World;
 use anyhow::{Result, anyhow};
+use memory_disks::MemDisk;
 use sha2::{Digest, Sha256};
 use std::alloc::Global;
 use std::sync::Wait;
@@ -15,6 +16,23 @@ const IMAGES: [&str; 4] = ["oldest", "newest", "0,1", "1,0,1"];
 /// By how many places of their list the second stops of two images are apart.
 const APART: usize = 5;
 
+/// The script's disk with these bytes, whose calls fail so.
+fn disk_of(
+    alloc: Global,
+    world: &World,
+    bytes: &[u8],
+    limit: Limit<'_>,
+) -> Result<Vec<(String, MemDisk)>> {
+    let Some(shelf) = world.disks.first() else {
+        return Err(anyhow!("no disk"));
+    };
+    let mut disk = disk_with(alloc, shelf.atom, bytes, limit)?;
+    disk.set_tail(shelf.tail);
+    let mut disks = Vec::new(alloc);
+    disks.push((shelf.name.clone()?, disk))?;
+    Ok(disks)
+}
+
 /// Runs a command on a disk of these bytes that has no client.
 fn ran(
     rt: &HostRuntime,
@@ -24,13 +42,7 @@ fn ran(
     bytes: &[u8],
     limit: Limit<'_>,
 ) -> Result<Outcome> {
-    let alloc = rt.alloc();
-    let Some(shelf) = world.disks.first() else {
-        return Err(anyhow!("no disk"));
-    };
-    let disk = disk_with(alloc, shelf.atom, bytes, limit)?;
-    let mut disks = Vec::new(alloc);
-    disks.push((shelf.name.clone()?, disk))?;
+    let disks = disk_of(rt.alloc(), world, bytes, limit)?;
     run_on(rt, threads, world, words, disks, &[])
 }
 
@@ -42,12 +54,7 @@ fn read_by(
     bytes: &[u8],
 ) -> Result<String> {
     let alloc = rt.alloc();
-    let Some(shelf) = world.disks.first() else {
-        return Err(anyhow!("no disk"));
-    };
-    let disk = disk_with(alloc, shelf.atom, bytes, Limit::Fail(&[]))?;
-    let mut disks = Vec::new(alloc);
-    disks.push((shelf.name.clone()?, disk))?;
+    let disks = disk_of(alloc, world, bytes, Limit::Fail(&[]))?;
     let next = &world.next;
     let words = next.reader.as_str();
     let outcome = run_on(rt, threads, world, words, disks, next.clients.as_slice())?;
@@ -84,11 +91,10 @@ fn state_on(
     bytes: &[u8],
 ) -> Result<String> {
     let alloc = rt.alloc();
-    let atom = match world.disks.first() {
-        Some(shelf) => shelf.atom,
-        None => 0,
+    let Some(shelf) = world.disks.first() else {
+        return Err(anyhow!("no disk"));
     };
-    let words = format!(in alloc; "status x --atom {atom}")?;
+    let words = format!(in alloc; "status {} --atom {}", shelf.name, shelf.atom)?;
     let outcome = ran(rt, threads, world, words.as_str(), bytes, Limit::Fail(&[]))?;
     let mut state = String::from_str(alloc, "idle")?;
     for line in outcome.text.as_str().lines() {

@@ -3,7 +3,7 @@
 
 use crate::bytes::Lexicon;
 use crate::numbers::number;
-use crate::running::put_text;
+use crate::sessions::put_text;
 use aes_core::Aes;
 use af_split::{merge, split};
 use anyhow::{Result, anyhow};

@@ -1,7 +1,7 @@
 // What a script has settled: names, disks, key files, and how its next command is run.
 
 use crate::bytes::{Lexicon, rising};
-use crate::disks::{Limit, Shelf, disk_with, shelf};
+use crate::disks::{Limit, Shelf, disk_with, new_shelf};
 use crate::draws::drawn_requests;
 use crate::editing::edited;
 use crate::headers::change;
@@ -165,7 +165,7 @@ impl World {
         atoms: u64,
         byte: u8,
     ) -> Result<()> {
-        let made = shelf(alloc, name, atom, atoms, byte)?;
+        let made = new_shelf(alloc, name, atom, atoms, byte)?;
         if self
             .disks
             .first()

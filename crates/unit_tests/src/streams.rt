@@ -186,18 +186,18 @@ fn a_sink_fails_where_its_stream_takes_nothing_or_cannot_flush(
     let mut sink = StdSink::new(writer);
     same(
         &rt,
-        (sink.put(b"abcde").is_ok(), sink.push().is_ok()),
+        (sink.put(b"abcde").is_ok(), sink.push_out().is_ok()),
         (true, true),
     );
     same(
         &rt,
-        (sink.put(b"f").is_ok(), sink.push().is_ok()),
+        (sink.put(b"f").is_ok(), sink.push_out().is_ok()),
         (true, false),
     );
     same(&rt, sink.faults(), 1);
     same(
         &rt,
-        (sink.put(b"gh").is_ok(), sink.push().is_ok()),
+        (sink.put(b"gh").is_ok(), sink.push_out().is_ok()),
         (true, false),
     );
     same(&rt, (sink.put(b"").is_ok(), sink.faults()), (true, 2));

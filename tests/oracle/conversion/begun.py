@@ -1,11 +1,10 @@
 """The header with which a conversion begins whose new key is drawn (docs/CONVERSION.md,
 docs/FORMATS.md), and the new keyslot's area."""
 
-import argparse
+from types import SimpleNamespace
 
 from ..luks.ciphers import STRIPES, KeyDraw, area_size, drawn, pages
 from ..luks.header import HEAD, text_of
-from ..words import Parser
 from . import steps
 
 
@@ -13,28 +12,8 @@ class NoFit(Exception):
     """Something doesn't fit: what, and the number and the limit."""
 
 
-class Wish(argparse.Namespace):
+class Wish(SimpleNamespace):
     """What the words of `init` ask for."""
-
-    @classmethod
-    def of(cls, words):
-        parser = Parser()
-        parser.add_argument("--key-file")
-        parser.add_argument("--drop-keyslots", action="store_true")
-        parser.add_argument("--cipher", default="aes-xts-plain64")
-        parser.add_argument("--resilience", default="journal")
-        parser.add_argument("--direction", default="forward")
-        for name, default in [
-            ("atom", 4096),
-            ("key-size", 0),
-            ("sector-size", 512),
-            ("iterations", 100000),
-            ("hotzone-size", 1048576),
-        ]:
-            parser.add_argument("--" + name, type=int, default=default)
-        wish = parser.parse_args(words, cls())
-        wish.key_size = wish.key_size or (64 if "xts" in wish.cipher else 32)
-        return wish
 
     def guard(self, place):
         """The area that guards zones: their old atoms, or a digest of each, in whole pages."""

@@ -1,5 +1,5 @@
-"""The metadata of a conversion, step by step: what they are, where they say that the volume's blocks lie,
-and which rule they break."""
+"""The metadata of a conversion, step by step: what they are, where they say that the volume's
+blocks lie, and which rule they break."""
 
 import json
 
@@ -43,7 +43,8 @@ def told(header, disks):
 
 
 def drawn_key(header, disks, passphrase, key_size, sector_size, direction, guard, zone):
-    """The header with which a conversion begins whose key is drawn, or else what stands in the way."""
+    """The header with which a conversion begins whose key is drawn, or else what stands in the
+    way."""
     if REQUIREMENT in mandatory(header):
         return None, "InProgress"
     if any(segment["type"] == "linear" for segment in header["segments"].values()):

@@ -47,6 +47,13 @@ def cipher_of(name, key, number):
     return Cipher(algorithms.AES(key), modes.CBC(under.update(plain)))
 
 
+@functools.lru_cache(1 << 14)
+def sector_turned(name, key, number, data, how):
+    """One sector, sealed (`encryptor`) or opened (`decryptor`)."""
+    cipher = getattr(cipher_of(name, key, number), how)()
+    return cipher.update(data) + cipher.finalize()
+
+
 class Side:
     """A key with its cipher and its sectors, which are numbered in units of 512 bytes."""
 
@@ -58,8 +65,8 @@ class Side:
         segment's."""
         found, first = [], first + self.tweak
         for place in range(0, len(data), self.sector):
-            cipher = getattr(cipher_of(self.name, self.key, first + place // UNIT), how)()
-            found.append(cipher.update(data[place : place + self.sector]) + cipher.finalize())
+            one = data[place : place + self.sector]
+            found.append(sector_turned(self.name, self.key, first + place // UNIT, one, how))
         return b"".join(found)
 
     def sealed(self, data, first):
@@ -116,8 +123,8 @@ def sealed_stripes(key, drawn_stripes, passphrase, salt, iterations):
 
 
 class KeyDraw:
-    """A key and what is drawn with it, in this order: the key, the keyslot's salt, the stripes but the
-    last, and the digest's salt; what a volume's making draws besides is left."""
+    """A key and what is drawn with it, in this order: the key, the keyslot's salt, the stripes
+    but the last, and the digest's salt; what a volume's making draws besides is left."""
 
     def __init__(self, key_size, data):
         self.left = data

@@ -51,8 +51,8 @@ class Copy:
     def __init__(self, data):
         self.data = data
         self.size, self.number = struct.unpack(">QQ", data[8:24])
-        self.identifier = data[168:208].split(b"\0")[0].decode()
-        self.text = data[HEAD:].split(b"\0")[0]
+        self.identifier = data[168:208].partition(b"\0")[0].decode()
+        self.text = data[HEAD:].partition(b"\0")[0]
         self.salt = data[104:168]
 
     def again(self, which, salt, number=None, text=None):
@@ -67,9 +67,15 @@ class Copy:
         return summed(bytes(data))
 
 
+# where the label, the checksum's algorithm, the identifier and the subsystem stand
+TEXTS = [(24, 72), (72, 104), (168, 208), (208, 256)]
+
+
 def valid_copy(data, place):
     """The copy that bytes are, or none."""
     if data[:6] != MAGICS[0 if place == 0 else 1] or data[6:8] != b"\0\2":
+        return None
+    if data[72:79] != b"sha256\0" or any(b"\0" not in data[at:end] for at, end in TEXTS):
         return None
     if summed(data)[448:512] != data[448:512]:
         return None

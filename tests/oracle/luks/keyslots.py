@@ -28,8 +28,8 @@ def is_supported(slot, ciphers):
 
 @functools.lru_cache(None)
 def key_in(data, passphrase, kdf, af_hash, area, size):
-    """The key of so many bytes that a passphrase unseals from the bytes of a keyslot's area: `kdf` are its
-    hash, salt and iterations, and `area` its encryption and the bytes of its key."""
+    """The key of so many bytes that a passphrase unseals from the bytes of a keyslot's area:
+    `kdf` are its hash, salt and iterations, and `area` its encryption and the bytes of its key."""
     hash_name, salt, iterations = kdf
     encryption, key_size = area
     area_key = hashlib.pbkdf2_hmac(hash_name, passphrase, salt, iterations, key_size)
@@ -37,18 +37,22 @@ def key_in(data, passphrase, kdf, af_hash, area, size):
     return merged(stripes[: size * STRIPES], size, af_hash)
 
 
+@functools.lru_cache(None)
+def digest_of(key, hash_name, salt, iterations, length):
+    return hashlib.pbkdf2_hmac(hash_name, key, salt, iterations, length)
+
+
 def is_of(key, digest):
     """Whether a key has this digest, which is of 20 to 64 bytes."""
     wanted, salt = base64.b64decode(digest["digest"]), base64.b64decode(digest["salt"])
     if not 20 <= len(wanted) <= 64 or digest["hash"] not in HASHES:
         return False
-    told = hashlib.pbkdf2_hmac(digest["hash"], key, salt, digest["iterations"], len(wanted))
-    return told == wanted
+    return digest_of(key, digest["hash"], salt, digest["iterations"], len(wanted)) == wanted
 
 
 def unlock(disk, objects, digests, passphrase):
-    """Reads the areas of the keyslots that digests list, those that are preferred first and else by rising
-    number, until one gives the passphrase the key of such a digest: that key."""
+    """Reads the areas of the keyslots that digests list, those that are preferred first and else
+    by rising number, until one gives the passphrase the key of such a digest: that key."""
     segments = [objects["segments"][number] for digest in digests for number in digest["segments"]]
     ciphers = {segment["encryption"] for segment in segments if segment["type"] == "crypt"}
     slots = numbered(objects["keyslots"])

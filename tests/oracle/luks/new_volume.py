@@ -1,46 +1,23 @@
 """New volumes: the header's two copies and the keyslot's area, all that is random of them from the
 key stream of ChaCha20 under 32 drawn bytes."""
 
-import argparse
 import uuid
+from types import SimpleNamespace
 
-from ..words import Parser
 from .ciphers import KeyDraw, STRIPES, area_size, drawn
 from .header import HEAD, copy_of, text_of
 
 
-class Wish(argparse.Namespace):
+class Wish(SimpleNamespace):
     """What the words of `format` ask for."""
 
     def keyslots_end(self):
-        """Where the keyslots area ends: with the gap in front of the data, or at 16 MiB of a disk of
-        its own."""
-        return 16 << 20 if self.header else self.data_offset
+        """Where the keyslots area ends: with the gap in front of the data, or at 16 MiB of a
+        disk of its own."""
+        return 16 << 20 if self.header is not None else self.data_offset
 
     def keyslots_size(self):
         return min(max(self.keyslots_end() - 2 * self.metadata_size, 0), 128 << 20)
-
-    @classmethod
-    def of(cls, words):
-        parser = Parser()
-        parser.add_argument("--header")
-        parser.add_argument("--key-file")
-        parser.add_argument("--cipher", default="aes-xts-plain64")
-        parser.add_argument("--uuid")
-        for name, default in [
-            ("atom", 4096),
-            ("key-size", 0),
-            ("sector-size", 512),
-            ("data-offset", None),
-            ("iterations", 100000),
-            ("metadata-size", 16384),
-        ]:
-            parser.add_argument("--" + name, type=int, default=default)
-        wish = parser.parse_args(words, cls())
-        wish.key_size = wish.key_size or (64 if "xts" in wish.cipher else 32)
-        if wish.data_offset is None:
-            wish.data_offset = 0 if wish.header else 16 << 20
-        return wish
 
     def unfit(self, length, atoms, header_atoms):
         """The first that doesn't fit of a volume with such a passphrase and disks; its text always
@@ -48,7 +25,7 @@ class Wish(argparse.Namespace):
         wanted = area_size(self.key_size)
         if self.keyslots_size() < wanted:
             return ("Area", wanted, self.keyslots_size())
-        if self.header and header_atoms * self.atom < self.keyslots_end():
+        if self.header is not None and header_atoms * self.atom < self.keyslots_end():
             return ("Area", self.keyslots_end(), header_atoms * self.atom)
         if not 1 <= length <= 512:
             return ("Passphrase", length, 1 if length == 0 else 512)

@@ -4,12 +4,9 @@ from ..conversion.begun import NoFit
 from ..conversion.rules import first_broken
 from ..conversion.steps import Disks
 from ..conversion.zones import Fault
+from ..luks import members
 from ..luks.header import CopiesDiffer, Header, NoHeader
-from ..words import Faulty
 from .disk import Failed
-
-KEYS = {"k": b"a passphrase", "line": b"a passphrase\n", "empty": b"", "long": bytes([107]) * 513}
-
 
 class Ended(Exception):
     """A command ended: its status, its cause, and what it printed."""
@@ -28,7 +25,8 @@ def no_fit(what, number, limit):
 
 
 def refused(found):
-    """What ends a command where something doesn't fit, or headers to come have no number or no room."""
+    """What ends a command where something doesn't fit, or headers to come have no number or no
+    room."""
     what, first, second = found.args
     if isinstance(found, NoFit):
         return no_fit(what, first, second)
@@ -36,28 +34,25 @@ def refused(found):
 
 
 class Bay:
-    """Disks and key files by their names, the 32 bytes that are drawn, what clients at the address `A` send,
-    and the calls of the bay and of the seeds that fail. It keeps which disks were opened, the links'
-    sessions, and what a gate was told."""
+    """Disks and key files by their names, the 32 bytes that are drawn, what clients at the
+    address `A` send, and the numbers of the calls that fail by whose they are. It keeps which
+    disks were opened, the links' sessions, and what a gate was told."""
 
-    def __init__(self, disks, seed=bytes(32), fails=(), seeds_fail=(), keys=KEYS, clients=()):
-        self.link_fails = {}
-        self.disks, self.fails, self.seeds_fail = disks, set(fails), set(seeds_fail)
-        self.keys, self.clients = keys, clients
-        self.drawn_from, self.asked, self.faults = seed, 0, 0
+    def __init__(self, disks, keys, seed, clients=(), fails_of=lambda _: ()):
+        self.disks, self.keys, self.drawn_from = disks, keys, seed
+        self.clients, self.fails_of = clients, fails_of
+        self.asked = self.faults = 0
         self.opened, self.sessions, self.course = [], [], ""
 
     def answer(self, what, found):
         """What a call of the bay gives; None where it fails."""
         self.asked += 1
-        if found is None or self.asked - 1 in self.fails:
+        if found is None or self.asked - 1 in self.fails_of("bay"):
             self.faults += 1
             raise device(what, self.faults)
         return found
 
     def disk(self, name, atom):
-        if atom not in (512, 4096):
-            raise Faulty
         disk = self.disks.get(name)
         is_there = disk is not None and disk not in self.opened and disk.atom == atom
         self.opened.append(self.answer("Opening", disk if is_there else None))
@@ -70,14 +65,14 @@ class Bay:
         self.answer("Listening", address == "A" or None)
 
     def seed(self):
-        if 0 in self.seeds_fail:
+        if 0 in self.fails_of("seeds"):
             raise fault(12, "Seeds", "Seeds { faults: 1 }")
         return self.drawn_from
 
 
 class failing:
-    """What device calls are made for: one that fails in here ends the command so, and so does a headers'
-    text or number that doesn't fit."""
+    """What device calls are made for: one that fails in here ends the command so, and so does a
+    headers' text or number that doesn't fit."""
 
     def __init__(self, what, disk=None):
         self.what, self.disk = what, disk
@@ -99,6 +94,7 @@ class failing:
 def judge(disk, objects):
     """Whether a header's objects have all members, and keep the rules."""
     try:
+        members.check(objects)
         rule = first_broken(objects, Disks(disk.atom, "attached", len(disk.held)))
     except (AttributeError, LookupError, TypeError, ValueError):
         rule = "a member lacks, or isn't what it is to be"

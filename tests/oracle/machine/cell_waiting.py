@@ -2,11 +2,11 @@
 """Explores how threads wait for a cell's machine, in every order of their steps.
 
 The steps are those of `take`, `try_take`, `sleep`, `mark_again` and `wake` in
-crates/volume_cell/src/cell.rt, repeated here by hand. Each run has so many threads, of which each
-asks for so many turns, and a limit of the history. A run fails where a state is found from which no
-thread can go on although some have not returned: a sleeper that nobody wakes. `give_way` is no step:
-a thread that gives way goes on by itself and wakes nobody, so it is one that comes later.
-"""
+crates/volume_cell/src/cell.rt, repeated here by hand. Each run has so many threads, of which
+each asks for so many turns, and a limit of the history. A run fails where a state is found from
+which no thread can go on although some have not returned: a sleeper that nobody wakes.
+`give_way` is no step: a thread that gives way goes on by itself and wakes nobody, so it is one
+that comes later."""
 import sys
 from collections import deque
 
@@ -25,7 +25,9 @@ def steps(state, vain, limit):
     (word, mark, parked), threads = state
     for number, (step, turns, slept, found, seen) in enumerate(threads):
 
-        def go(step, turns=turns, slept=slept, found=found, seen=seen, word=word, mark=mark, woken=None):
+        def go(
+            step, turns=turns, slept=slept, found=found, seen=seen, word=word, mark=mark, woken=None
+        ):
             after = list(threads)
             after[number] = (step, turns, slept, found, seen)
             still = parked + (number,) if step == "parked" else parked

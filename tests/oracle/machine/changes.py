@@ -1,4 +1,4 @@
-"""What other programs do to a disk: zeros somewhere, and headers with other numbers and texts."""
+"""What other programs do to a disk: headers with other numbers and texts."""
 
 import json
 import struct
@@ -20,11 +20,6 @@ def with_copies(data, changed):
     return found + data[2 * copies[0].size :]
 
 
-def zeroed(data, at, length):
-    """Zeros in place of so many bytes."""
-    return data[:at] + bytes(length) + data[at + length :]
-
-
 def numbered(data, number):
     """Both copies of the header with this number."""
     return with_copies(data, lambda _, text: (number, text))
@@ -41,4 +36,4 @@ def noted(data, length):
     return with_copies(data, changed)
 
 
-CHANGES = {"zero": zeroed, "number": numbered, "token": noted}
+CHANGES = {"number": numbered, "token": noted}

@@ -1,18 +1,19 @@
-"""The commands on disks in memory (docs/CLI.md): what each calls of the disk, one after the other, and
-how it ends."""
+"""The commands on disks in memory (docs/CLI.md): what each calls of the disk, one after the
+other, and how it ends."""
 
 import json
+from types import SimpleNamespace
 
 from ..conversion import begun, steps
 from ..conversion.mending import Mended
-from ..conversion.zones import Led
+from ..conversion.zones import Fault, Led
 from ..luks import new_volume
 from ..luks.ciphers import Side
 from ..luks.keyslots import unlock
 from ..luks.header import LARGEST, CopiesDiffer, Header, NoHeader, numbered
-from ..words import Faulty, Parser
+from ..words import Faulty, asked
 from .bay import Ended, device, failing, fault, judge, no_fit, read_header, refused
-from .disk import Both, Disk
+from .disk import Both, Failed
 
 # ---- keys
 
@@ -37,23 +38,14 @@ def checked(passphrase):
     return passphrase
 
 
-def asked(words, *options):
-    """What the words of a command ask for."""
-    parser = Parser()
-    parser.add_argument("--atom", type=int, default=4096)
-    for option in options:
-        parser.add_argument(option)
-    return parser.parse_args(words)
-
-
 # ---- format and init
 
 
-def make(bay, words):
-    wish, seed = new_volume.Wish.of(words), bay.seed()
+def make(bay, asked):
+    wish, seed = new_volume.Wish(**vars(asked)), bay.seed()
     target = disk = bay.disk(wish.disk, wish.atom)
     header_atoms = 0
-    if wish.header:
+    if wish.header is not None:
         header = bay.disk(wish.header, wish.atom)
         target, header_atoms = Both(header, disk), len(header.held)
     passphrase = bay.passphrase(wish.key_file)
@@ -70,8 +62,8 @@ def make(bay, words):
     raise Ended(0, "Fine", f"formatted {volume.identifier}\n")
 
 
-def init(bay, words):
-    wish, seed = begun.Wish.of(words), bay.seed()
+def init(bay, asked):
+    wish, seed = begun.Wish(**vars(asked)), bay.seed()
     disk = bay.disk(wish.disk, wish.atom)
     passphrase = bay.passphrase(wish.key_file)
     header = read_header(disk, "Reading")
@@ -131,8 +123,7 @@ def state_text(disk, objects):
     ]
 
 
-def status(bay, words):
-    wish = asked(words)
+def status(bay, wish):
     disk = bay.disk(wish.disk, wish.atom)
     with failing("Reading", disk):
         try:
@@ -178,8 +169,8 @@ def find_keys(disk, objects, passphrase):
 
 
 def taken_up(disk, passphrase):
-    """Opens the volume of a conversion that is under way: what is read and checked, and then what is
-    written before the first zone."""
+    """Opens the volume of a conversion that is under way: what is read and checked, and then
+    what is written before the first zone."""
     header = read_header(disk, "Reading")
     if not header.in_progress():
         raise fault(6, "WrongState")
@@ -191,15 +182,10 @@ def taken_up(disk, passphrase):
         volume = Volume(disk, header.objects, keys)
         # what writes the zone again is made of the header as it stands, and checked, before the
         # copy that lacks or is older is written anew
-        mended = Mended(volume, Disk(disk.atom, disk.bytes()))
-        why = mended.refusal() if mended.zone else None
-        if why:
-            raise why
+        mended = Mended(volume, header)
         header.repair(disk)
         if mended.zone:
-            mended.disk = disk
-            for _ in mended.walk():
-                pass
+            mended.write(disk)
     return volume
 
 
@@ -212,16 +198,21 @@ class Told(Led):
 
     def __init__(self, volume, disk):
         super().__init__(volume, disk)
-        self.told, self.why = [], None
+        self.told = []
 
     def step_on(self):
         zone, new, calls = self.range(), self.found.counts["new"], self.disk.calls
-        answer = super().step_on()
-        calls = self.disk.calls - calls
-        self.told += [new] * (calls + (zone is not None))
-        if not answer.startswith("Device"):
-            self.told.append(self.found.counts["new"])
-        return answer
+        try:
+            super().step_on()
+            ends = [self.found.counts["new"]]
+        except Fault:
+            ends = [new]
+            raise
+        except Failed:
+            ends = []
+            raise
+        finally:
+            self.told += [new] * (self.disk.calls - calls + (zone is not None)) + ends
 
     def course(self):
         """What is told first, and last, how often, and how often it was another number."""
@@ -236,16 +227,17 @@ class Told(Led):
 def led_to_its_end(bay, disk, volume, failing_at):
     """The conversion is led on; where it ends before, the command does."""
     led = Told(volume, disk)
-    answer = led.lead()
-    bay.course = led.course()
-    if answer.startswith("Device"):
-        raise device(failing_at(), disk.faults)
-    if answer != "AllDone":
-        raise refused(led.why)
+    try:
+        led.lead()
+    except Failed:
+        raise device(failing_at(), disk.faults) from None
+    except Fault as found:
+        raise refused(found) from None
+    finally:
+        bay.course = led.course()
 
 
-def resume(bay, words):
-    wish = asked(words, "--key-file")
+def resume(bay, wish):
     disk = bay.disk(wish.disk, wish.atom)
     passphrase = bay.passphrase(wish.key_file)
     volume = taken_up(disk, passphrase)
@@ -260,9 +252,8 @@ def ended_by(bay, words):
     """How a command ends: the status, its cause, and what it prints."""
     words = words.split(" ") if words else []
     try:
-        if not words or words[0] not in COMMANDS:
-            raise Faulty
-        COMMANDS[words[0]](bay, words)
+        wish = SimpleNamespace(**asked(words))
+        COMMANDS[wish.command](bay, wish)
     except Ended as ended:
         return ended.args
     except Faulty:

@@ -6,9 +6,9 @@ class Failed(Exception):
 
 
 class Disk:
-    """Of each atom the bytes that it has and those that a stop may leave. The calls with these numbers
-    fail; one that is stopped makes so many calls, and all behind them fail. The tail are bytes behind the last
-    whole atom."""
+    """Of each atom the bytes that it has and those that a stop may leave. The calls with these
+    numbers fail; one that is stopped makes so many calls, and all behind them fail. The tail are
+    bytes behind the last whole atom."""
 
     def __init__(self, atom, data, fails=(), stop=None, tail=0):
         self.atom, self.fails, self.stop, self.tail = atom, set(fails), stop, tail
@@ -55,8 +55,8 @@ class Disk:
         return b"".join(self.held)
 
     def image(self, which):
-        """The bytes of one image: what is held, the oldest, the newest, or of each atom the candidate of a
-        list of numbers that goes round."""
+        """The bytes of one image: what is held, the oldest, the newest, or of each atom the
+        candidate of a list of numbers that goes round."""
         if which == "held":
             return self.bytes()
         if which in ("oldest", "newest"):

@@ -1,15 +1,18 @@
-"""What the lines of a script come to: a command that is run, one that is stopped within its device calls, and
-one whose device calls fail; the latter two go on, and a client is served at the end."""
+"""What the lines of a script come to: a command that is run, one that is stopped within its
+device calls, and one whose device calls fail; the latter two go on, and a client is served at
+the end."""
 
 import hashlib
 import json
 import re
+from types import SimpleNamespace
 
-from ..conversion.images import runs_of
+from ..conversion.images import content
 from ..luks.ciphers import sum_of
 from ..luks.header import Header
 from . import serving
-from ..words import NotJudged
+from ..nbd import server as nbd
+from ..words import NotJudged, asked
 from .bay import Bay
 from .commands import Volume, ended_by, find_keys
 from .disk import Disk
@@ -18,15 +21,13 @@ IMAGES = ["oldest", "newest", "0,1", "1,0,1"]
 # by how many places of their list the second stops of two images are apart
 APART = 5
 # what a line may be that isn't why nothing was opened
-OTHERS = re.compile(r"\d+ told, |link \d+: |met$|missed$|(disk|header): \d+ calls, ")
+OTHERS = re.compile(r"says |\d+ told, |link \d+: |met$|missed$|(disk|header): \d+ calls, ")
 
 
 def run_on(world, words, disks, clients=()):
     """A command's end, on these disks, for these clients, and the bay behind it."""
-    fails = world.next.fails_of
-    bay = Bay(disks, world.seed(), fails("bay"), fails("seeds"), world.keys, clients)
-    bay.link_fails = {link: fails(f"link{link}") for link in range(4)}
-    ended = put_out(ended_by(bay, words), world.next.room, fails("out"))
+    bay = Bay(disks, world.keys, world.seed(), clients, world.next.fails_of)
+    ended = put_out(ended_by(bay, words), world.next.room, world.next.fails_of("out"))
     if any(world.next.taken < len(session.put) for _, _, session in bay.sessions):
         raise NotJudged
     return ended, bay
@@ -61,6 +62,33 @@ def in_order(sessions):
     return sorted(sessions, key=lambda one: one[:2])
 
 
+def said(there):
+    """What people are told besides, as it is there."""
+    return [line for line in there if line.startswith("says ")]
+
+
+def breaks_beside(world, words, there):
+    """The lines of a command whose conversion a failing call breaks beside one client's
+    requests: some of these come before that, and each behind it is refused, as it is there. Of
+    the disk behind it the volume's content is known, and that its conversion isn't at its end."""
+    if not there:
+        raise NotJudged
+    (name, shelf), (sent,) = next(iter(world.disks.items())), world.next.clients
+    wish = SimpleNamespace(**asked(words.split(" ")))
+    disk = Disk(shelf.atom, shelf.bytes)
+    bay = Bay({name: disk}, world.keys, b"")
+    blocks, _ = serving.opened(bay, bay.disk(name, wish.atom), wish)
+    for healthy in range(sent.count(b"\x25\x60\x95\x13") + 1):
+        session = nbd.Session(bytearray(blocks.content()), shelf.atom, sent, healthy)
+        line = told_session(0, 0, session)
+        if line in there:
+            break
+    blocks.write(0, bytes(session.disk))
+    shelf.bytes = disk.bytes()
+    ended = 2, "Device { failing: Writing, faults: 1 }", "fault 2 Device\n"
+    return [told(ended), *said(there), line] + ["met"] * (world.next.meet is not None)
+
+
 def disks_of(world):
     disks = {}
     for name, shelf in world.disks.items():
@@ -73,12 +101,16 @@ def disks_of(world):
 
 
 def run(world, words, is_loose, there):
-    """The lines of a command that is run; why nothing was opened is taken as it is there."""
+    """The lines of a command that is run; why nothing was opened, and what people are told
+    besides, are taken as they are there."""
     disks = disks_of(world)
+    if is_loose and world.next.clients and world.next.fails_of(next(iter(disks))):
+        return breaks_beside(world, words, there)
     ended, bay = run_on(world, words, disks, world.next.clients)
     lines = [told(ended)]
     if ended[0] and len(there) > 1 and not OTHERS.match(there[1]):
         lines.append(there[1])
+    lines += said(there)
     if bay.course and not is_loose:
         lines.append(bay.course)
     lines += [told_session(*one) for one in in_order(bay.sessions)]
@@ -97,8 +129,8 @@ def run(world, words, is_loose, there):
 
 
 class Scene:
-    """The first disk of a script, on which a command is stopped or fails and goes on; what comes of a disk
-    is kept by its bytes."""
+    """The first disk of a script, on which a command is stopped or fails and goes on; what comes
+    of a disk is kept by its bytes."""
 
     def __init__(self, world, words):
         self.world, self.words, self.kept = world, words, {}
@@ -125,23 +157,23 @@ class Scene:
         return " ".join(line[1] for line in lines if line[0] in ("boundary", "zone")) or "idle"
 
     def content_of(self, data):
-        """The content that an image holds by the header that it has, under the first key file that opens
-        it."""
+        """The content that an image holds by the header that it has, under the first key file
+        that opens it."""
         disk = Disk(self.atom, data)
         (key_file,) = re.findall(r"--key-file (\S+)", self.words)
         header, passphrase = Header(disk), self.world.keys[key_file]
         if not header.in_progress():
             return serving.opened_idle(disk, header, passphrase).content()
         volume = Volume(disk, header.objects, find_keys(disk, header.objects, passphrase))
-        return b"".join(data for _, _, data in runs_of(volume, data)[1])
+        return content(volume, data)
 
     def checked(self, data):
         assert self.content_of(data) == self.content, "an image of another content"
         return data
 
     def goes_on(self, image, second, left):
-        """How an image goes on: the command is stopped once more, and then it isn't, and the client is
-        served. What is told, and what stands on the disk behind either."""
+        """How an image goes on: the command is stopped once more, and then it isn't, and the
+        client is served. What is told, and what stands on the disk behind either."""
         if (image, second, left) not in self.kept:
             ended, _, disk = self.ran(self.words, self.checked(image), stop=second)
             again = self.checked(disk.image(left))
@@ -163,7 +195,8 @@ def stops(world, words):
         found = []
         for which, left in enumerate(IMAGES):
             image = disk.image(left)
-            text, *behind = scene.goes_on(image, seconds[(stop + APART * which) % len(seconds)], left)
+            second = seconds[(stop + APART * which) % len(seconds)]
+            text, *behind = scene.goes_on(image, second, left)
             found.append(text)
             for data in (image, *behind):
                 images.update(data)

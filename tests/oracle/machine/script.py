@@ -1,5 +1,5 @@
-"""Scripts of the crate `rows` (crates/rows/src/lines.rt): what their lines settle, and which of them show
-something."""
+"""Scripts of the crate `rows` (crates/rows/src/lines.rt): what their lines settle, and which of
+them show something."""
 
 import os
 
@@ -7,8 +7,8 @@ from ..conversion.walk import Walk
 from ..luks.header import MAGICS, copy_of, summed
 from .changes import noted
 
-UNIFORM = "12345678-1234-4234-8234-123456789ABC"
-SHOWN = ("run", "loose", "stops", "faults", "value", "metadata")
+IDENTIFIER = "12345678-1234-4234-8234-123456789ABC"
+SHOWN = ("run", "loose", "stops", "faults", "words", "value", "metadata")
 
 
 def rising(length, first, modulus):
@@ -165,7 +165,7 @@ class World:
     def settle_copy(self, name, at, size, number, letter, text):
         data = self.names[text].rstrip()
         which = 0 if at == "0" else 1
-        found = bytearray(copy_of(which, int(size), int(number), data, bytes([7]) * 64, UNIFORM))
+        found = bytearray(copy_of(which, int(size), int(number), data, bytes([7]) * 64, IDENTIFIER))
         found[0:6] = MAGICS[which]
         found[24:25] = letter.encode()[:1]
         found[256:264] = int(at).to_bytes(8, "big")

@@ -1,39 +1,16 @@
-"""`serve` for clients whose bytes are there: the volume is opened, the sessions follow one another, and a
-conversion is led to its end behind them. What is read and written of the disk goes by pieces of at
-most 1 MiB on one side (docs/CONVERSION.md)."""
+"""`serve` for clients whose bytes are there: the volume is opened, the sessions follow one
+another, and a conversion is led to its end behind them. What is read and written of the disk
+goes by pieces of at most 1 MiB on one side (docs/CONVERSION.md)."""
 
-import argparse
-
-from ..conversion.zones import Led, mend
+from ..conversion.zones import Led
 from ..luks.ciphers import UNIT, Side
 from ..luks.header import Header
 from ..nbd import server as nbd
-from ..words import Faulty, Parser
 from .bay import Ended, device, failing, fault, no_fit, read_header
 from .commands import COMMANDS, checked, find_key, led_to_its_end, taken_up
 from .disk import Failed
 
 PIECE = 1048576
-
-
-class Words(argparse.Namespace):
-    """What the words of `serve` ask for."""
-
-    @classmethod
-    def of(cls, words):
-        parser = Parser()
-        for name in ("key-file", "listen", "idle-timeout"):
-            parser.add_argument("--" + name)
-        for name in ("plain", "no-worker", "verbose"):
-            parser.add_argument("--" + name, action="store_true")
-        for name, default in [("atom", 4096), ("workers", 4), ("sessions", 65535)]:
-            parser.add_argument("--" + name, type=int, default=default)
-        wish = parser.parse_args(words, cls())
-        if not (1 <= wish.workers <= 16 and 1 <= wish.sessions <= 65535):
-            raise Faulty
-        if wish.plain == bool(wish.key_file) or wish.listen is None:
-            raise Faulty
-        return wish
 
 
 class Plain:
@@ -72,12 +49,8 @@ class Blocks:
             self.broken = failed.args[0] != "read"
             raise
 
-    def read(self, at, length):
-        found = b""
-        for place, size, side in self.pieces(at, length):
-            data = self.call(self.disk.read, self.offset + place, size)
-            found += side.opened(data, place // UNIT)
-        return found
+    def read_piece(self, place, size, side):
+        return side.opened(self.call(self.disk.read, self.offset + place, size), place // UNIT)
 
     def write(self, at, data):
         for place, size, side in self.pieces(at, len(data)):
@@ -103,15 +76,18 @@ class OnDisk(nbd.Session):
         super().__init__(bytearray(blocks.content()), blocks.disk.atom, sent)
 
     def carried_out(self, kind, flags, offset, data):
-        blocks = self.blocks
+        blocks, is_broken = self.blocks, self.blocks.broken
         try:
             if kind == nbd.READ:
-                self.disk[offset : offset + len(data)] = blocks.read(offset, len(data))
+                for place, size, side in blocks.pieces(offset, len(data)):
+                    self.failed_at = None if is_broken else place
+                    self.disk[place : place + size] = blocks.read_piece(place, size, side)
+                self.failed_at = None
             elif kind == nbd.FLUSH:
                 blocks.call(blocks.disk.settle)
             else:
                 blocks.write(offset, data)
-                if flags & nbd.FUA:
+                if flags & nbd.FUA and data:
                     blocks.call(blocks.disk.settle)
             return super().carried_out(kind, flags, offset, data)
         except Failed:
@@ -156,13 +132,13 @@ def opened(bay, disk, wish):
 
 
 def served(bay, wish, blocks):
-    """Serves the clients in the order of their numbers, each by its link, up to the call at which that
-    fails; how many links fail."""
+    """Serves the clients in the order of their numbers, each by its link, up to the call at
+    which that fails; how many links fail."""
     clients, failed = bay.clients[: wish.sessions], 0
     lasts = []
     for link in range(wish.workers):
         asked = len(clients[link :: wish.workers]) + 1
-        fails = [call for call in bay.link_fails.get(link, ()) if call < asked]
+        fails = [call for call in bay.fails_of(f"link{link}") if call < asked]
         lasts.append(min(fails, default=asked))
         failed += bool(fails)
     for number, sent in enumerate(clients):
@@ -172,8 +148,7 @@ def served(bay, wish, blocks):
     return failed
 
 
-def serve(bay, words):
-    wish = Words.of(words)
+def serve(bay, wish):
     disk = bay.disk(wish.disk, wish.atom)
     blocks, volume = opened(bay, disk, wish)
     bay.listen(wish.listen)

@@ -1,13 +1,12 @@
 #!/usr/bin/env python3
-"""How many orders there are in which two lanes of clients and a conversion of four blocks make their
-turns, and what each leaves: by locks and turns alone, without a disk, a header or a key.
+"""How many orders there are in which two lanes of clients and a conversion of four blocks make
+their turns, and what each leaves: by locks and turns alone, without a disk, a header or a key.
 
-A lane begins its operation, makes a piece for each run of blocks on one side, settles a write that is
-to be kept for certain, and finishes it; a flush begins and settles. A zone's first turn enters its
-blocks into the list of locks, fourteen device calls follow, the last of which moves the boundary, and
-one turn leaves the blocks. The finish has six device calls, and one turn tells that it is made. A turn
-that changes nothing, because its lane waits, is none of an order.
-"""
+A lane begins its operation, makes a piece for each run of blocks on one side, settles a write
+that is to be kept for certain, and finishes it; a flush begins and settles. A zone's first turn
+enters its blocks into the list of locks, fourteen device calls follow, the last of which moves
+the boundary, and one turn leaves the blocks. The finish has six device calls, and one turn tells
+that it is made. A turn that changes nothing, because its lane waits, is none of an order."""
 
 import collections
 
@@ -15,8 +14,8 @@ BLOCKS, CALLS, FINISH = 4, 14, 7
 WORKER = 2
 
 # `entries` are those that entered, in order, each with its first block, its end and whether it is
-# alone there; a flush has no blocks. `lanes` tell of each operation its next block and whether it is
-# settled, or that it has ended; `made` are the zones that are behind, and the turns of the next one.
+# alone there; a flush has no blocks. `lanes` tell of each operation its next block and whether it
+# is settled, or that it has ended; `made` are the turns of the next zone behind `zones` of them.
 State = collections.namedtuple("State", "entries lanes zones made plain")
 START = State((), (None, None), 0, 0, (0,) * BLOCKS)
 
@@ -114,12 +113,14 @@ class Orders:
 
 def told(zone, forward, asks):
     orders, states, ends = Orders(zone, forward, asks).walk()
-    lines = sorted("".join(f".{byte}" for byte in end) + f" by {count}" for end, count in ends.items())
+    spelt = {"".join(f".{byte}" for byte in end): count for end, count in ends.items()}
+    lines = [f"{end} by {count}" for end, count in sorted(spelt.items())]
     return f"{orders} orders, {states} places; " + " ".join(lines)
 
 
 def main():
-    """A write beside a read, by zones of two blocks, and two writes beside each other, by one zone."""
+    """A write beside a read, by zones of two blocks, and two writes beside each other, by one
+    zone."""
     beside = [("write", 0, 2, False), ("read", 1, 2, False)]
     print("zones of 2 forward, a write and a read:", told(2, True, beside))
     both = [("write", 2, 2, False), ("write", 1, 2, False)]

@@ -1,8 +1,7 @@
-"""A model of the server: what a session puts for the bytes that its client sends, how it ends, and
-what is then on the disk. It says what the NBD protocol document and docs/FORMATS.md say, by its own
-words, for a disk whose calls don't fail, or whose volume is broken from some request on, and with memory for
-everything.
-"""
+"""A model of the server: what a session puts for the bytes that its client sends, how it ends,
+and what is then on the disk. It says what the NBD protocol document and docs/FORMATS.md say, by
+its own words, for a disk whose calls don't fail, or whose volume is broken from some request on,
+and with memory for everything."""
 
 import struct
 
@@ -18,7 +17,7 @@ READ, WRITE, DISC, FLUSH, TRIM, WRITE_ZEROES = 0, 1, 2, 3, 4, 6
 FUA, NO_HOLE, DF = 1, 2, 4
 EIO, EINVAL, ENOSPC = 5, 22, 28
 
-NONE, OFFSET_DATA, ERROR = 0, 1, 1 << 15 | 1
+NONE, OFFSET_DATA, ERROR, ERROR_OFFSET = 0, 1, 1 << 15 | 1, 1 << 15 | 2
 DONE = 1
 
 NAME = b"volume"
@@ -70,8 +69,9 @@ class Ended(Exception):
 
 
 class Session:
-    """One session, from the bytes that the client sends, whose input then ends. Where `healthy` is a number, the
-    volume is broken behind so many requests: each one from then on that isn't wrong is refused."""
+    """One session, from the bytes that the client sends, whose input then ends. Where `healthy`
+    is a number, the volume is broken behind so many requests: each one from then on that isn't
+    wrong is refused."""
 
     def __init__(self, disk, atom, sent, healthy=None):
         self.disk, self.atom, self.sent, self.healthy = disk, atom, sent, healthy
@@ -169,7 +169,7 @@ class Session:
         if kind == WRITE and length > MAX_DATA:
             raise Ended(f"TooLong({length})")
         data = self.take(length) if kind == WRITE else b""
-        error = self.refusal(flags, kind, offset, length)
+        error, self.failed_at = self.refusal(flags, kind, offset, length), None
         if not error:
             data = data if kind == WRITE else bytes(length)
             error = self.carried_out(kind, flags, offset, data)
@@ -180,8 +180,9 @@ class Session:
             self.put += simple_reply(cookie, error)
 
     def carried_out(self, kind, flags, offset, data):
-        """Does what a request asks for, which has so many bytes, or these; the error that it is answered, 0
-        for none."""
+        """Does what a request asks for, which has so many bytes, or these; the error that it is
+        answered, 0 for none. Where a piece of a read fails, `failed_at` is that piece's first
+        byte."""
         if self.healthy is not None and self.asked >= self.healthy:
             return EIO
         if kind in (WRITE, WRITE_ZEROES):
@@ -209,6 +210,9 @@ class Session:
         if not self.structured:
             data = b"" if error else self.disk[offset : offset + length]
             self.put += simple_reply(cookie, error, data)
+        elif self.failed_at is not None:
+            data = struct.pack(">IHQ", error, 0, self.failed_at)
+            self.put += chunk(cookie, DONE, ERROR_OFFSET, data)
         elif error:
             self.put += chunk(cookie, DONE, ERROR, struct.pack(">IH", error, 0))
         elif not length:

@@ -1,6 +1,6 @@
 -- Lemmas on what an operator would lose by a conversion.
 use Rattle.std.proofs.Common.{◌≡◌, ◌∙◌, ℕ, ◌<◌, ◌≤◌, Bool, true, false, List, length, inr, refl}
-use Rattle.std.proofs.Common.{ap, subst, sym}
+use Rattle.std.proofs.Common.{subst, sym}
 use Rattle.base_terms.specs.declared.disk_sizes.Sizes.{Sizes}
 use Rattle.luks_init.specs.DiskInit.Slips.{KeepsOthers, LosesNothing, WouldLose, key_holders}
 use Rattle.luks_init.specs.declared.init_disk.refusal.Refusal.TheVariants as refusals

@@ -9,7 +9,7 @@ use base_terms::Sizes;
 use luks_json::Meta;
 use luks_rules::{CheckError, Valid, check};
 use reenc_meta::{Reenc, place_idle};
-use segment_map::Map;
+use segment_map::{Direction, Map};
 use std::alloc::{AllocError, Global};
 
 /// The most atoms of a disk.
@@ -127,8 +127,23 @@ fn map_of(valid: &Valid) -> Result<Map>
 fn map_text(alloc: Global, valid: &Valid) -> Result<String>
     requires { IsDisk valid.now.sizes.atom (all_atoms valid.now.sizes) }
 {
-    let map = map_of(valid)?;
-    Ok(format!(in alloc; "{map:?}")?)
+    let Map {
+        atom,
+        blocks,
+        boundary,
+        direction,
+        zone,
+        old_place,
+        new_place,
+    } = map_of(valid)?;
+    let way = match direction {
+        Direction::Forward => "Forward",
+        Direction::Backward => "Backward",
+    };
+    let converted = format!(in alloc; "boundary: {boundary}, direction: {way}, zone: {zone}")?;
+    Ok(format!(in alloc;
+        "Map {{ atom: {atom}, blocks: {blocks}, {converted}, old_place: {old_place}, new_place: {new_place} }}"
+    )?)
 }
 
 /// Which rule metadata break, in words.

@@ -5,7 +5,7 @@ ghost use Rattle.rows.specs.Wishes.{HasText};
 ghost use Rattle.luks_json.specs.Digests.{IsDigest};
 ghost use Rattle.luks_json.specs.Keyslots.{IsLuks2};
 ghost use Rattle.luks_json.specs.Metas.{IsMeta};
-ghost use Rattle.luks_json.specs.Reencrypts.{IsReencrypt};
+ghost use Rattle.luks_json.specs.Reencrypts.{IsArea, IsReencrypt};
 ghost use Rattle.luks_json.specs.Segments.{is_sector_size};
 ghost use Rattle.reenc_meta.specs.Wishes.{HasOffset};
 
@@ -13,7 +13,8 @@ use crate::metadata::stands::read;
 use anyhow::{Result, anyhow};
 use json_members::Entry;
 use luks_json::{
-    Config, Digest, Direction, Encryption, Keyslot, Luks2, Parts, Reencrypt, Resilience,
+    Config, Digest, Direction, Encryption, Keyslot, Luks2, Parts, Reencrypt, ReencryptArea,
+    Resilience,
 };
 use reenc_meta::Wish;
 use std::alloc::Global;
@@ -81,34 +82,43 @@ fn key_in(alloc: Global, text: &str) -> Result<Option<(Luks2, Digest)>>
     Ok(Some((Box::into_inner(slot), digest)))
 }
 
+/// The same area of a conversion again.
+fn area_of(alloc: Global, conversion: &Reencrypt) -> Result<ReencryptArea>
+    requires { IsReencrypt conversion.now }
+    ensures { IfOk result IsArea }
+{
+    let area = &conversion.area;
+    Ok(ReencryptArea {
+        resilience: area.resilience,
+        offset: area.offset,
+        size: area.size,
+        rest: area.rest.copy(alloc)?,
+    })
+}
+
 /// The wish for a conversion under an encryption, with the sizes of a config.
 fn wish_with(
-    conversion: Reencrypt,
+    alloc: Global,
+    conversion: &Reencrypt,
     encryption: Encryption,
     config: &Config,
     key: Option<(Luks2, Digest)>,
-) -> Wish
-    requires conversion { IsReencrypt conversion }
+) -> Result<Wish>
+    requires conversion { IsReencrypt conversion.now }
     requires sectors { is_sector_size encryption.sector_size ≡ true }
     requires key { IfSome key (λ key. IsLuks2 key.0 × IsDigest key.1) }
-    ensures { HasText result }
+    ensures { IfOk result HasText }
 {
-    let Reencrypt {
-        mode,
-        direction,
-        area,
-        rest: _,
-    } = conversion;
-    Wish {
-        mode,
-        direction,
-        area,
+    Ok(Wish {
+        mode: conversion.mode,
+        direction: conversion.direction,
+        area: area_of(alloc, conversion)?,
         encryption: encryption.cipher,
         sector_size: encryption.sector_size as u32,
         key,
         header_size: config.json_size.saturating_add(4096),
         keyslots_size: config.keyslots_size,
-    }
+    })
 }
 
 /// What a text of metadata wishes for, in a copy of so many bytes, with the key of another.
@@ -120,7 +130,7 @@ pub(crate) fn wish_in(alloc: Global, size: u64, text: &str, key: &str) -> Result
     let encryption = encryption_of(parts)?;
     let conversion = conversion_of(alloc, parts)?;
     let key = key_in(alloc, key)?;
-    let wish = wish_with(Box::into_inner(conversion), encryption, &parts.config, key);
+    let wish = wish_with(alloc, &conversion, encryption, &parts.config, key)?;
     Ok(Box::new(alloc, wish)?)
 }
 

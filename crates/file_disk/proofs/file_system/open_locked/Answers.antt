@@ -11,6 +11,13 @@ unfolding OpensLocked
 returns-in-Err-lock g c =
     inr (inl (c.in-Ok.file, c.lock.new.self, c.in-Ok.ensures, c.in-Err-lock.ensures))
 
+pub returns-in-Err-check_unused : goal.returns-in-Err-check_unused
+unfolding OpensLocked
+returns-in-Err-check_unused g c =
+    let locked = c.in-Ok-lock.ensures in
+    let used = c.in-Err-check_unused.ensures in
+    inr (inr (inl (c.in-Ok.file, c.lock.new.self, c.in-Ok.ensures, locked, used)))
+
 pub returns-in-Ok-measure : goal.returns-in-Ok-measure
 unfolding OpensLocked
 returns-in-Ok-measure g c = (
@@ -18,6 +25,7 @@ returns-in-Ok-measure g c = (
   c.lock.new.self,
   c.in-Ok.ensures,
   c.in-Ok-lock.ensures,
+  c.in-Ok-check_unused.ensures,
   c.in-Ok-measure.ensures,
 )
 
@@ -25,5 +33,14 @@ pub returns-in-Err-measure : goal.returns-in-Err-measure
 unfolding OpensLocked
 returns-in-Err-measure g c =
     let locked = c.in-Ok-lock.ensures in
+    let free = c.in-Ok-check_unused.ensures in
     let refused = c.in-Err-measure.ensures in
-    inr (inr (c.in-Ok.file, c.lock.new.self, c.measure.new.self, c.in-Ok.ensures, locked, refused))
+    inr (inr (inr (
+      c.in-Ok.file,
+      c.lock.new.self,
+      c.measure.new.self,
+      c.in-Ok.ensures,
+      locked,
+      free,
+      refused,
+    )))

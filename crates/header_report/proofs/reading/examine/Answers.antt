@@ -50,6 +50,8 @@ returns-clause-read g c =
             ∙ ap (λ (j : Joint). j.main.size) joint;
         atoms = ap (λ d. (g.D.Disk.device d).atoms) main ∙ kept.main.atoms
             ∙ ap (λ (j : Joint). j.main.atoms) joint;
+        tail = ap (λ d. (g.D.Disk.device d).tail) main ∙ kept.main.tail
+            ∙ ap (λ (j : Joint). j.main.tail) joint;
         values =
             ap (λ d. (g.D.Disk.device d).values) main ∙ kept.main.values
             ∙ ap (λ (j : Joint). j.main.values) joint;

@@ -47,7 +47,7 @@ pub returns-clause-is : goal.returns-clause-is
 returns-clause-is c =
     let old = c.as_slice.ensures
     ∙ ap (λ (x : Parts). x.keyslots)
-    (c.parts.ensures.same ∙ c.meta-2.ensures ∙ ap (λ (v : Checked). v.meta) c.valid-2.ensures) in
+    (c.parts.ensures.same ∙ c.meta.ensures ∙ ap (λ (v : Checked). v.meta) c.valid-2.ensures) in
     let new = c.as_slice-2.ensures ∙ ap (λ (x : Parts). x.keyslots) c.parts-2.ensures.same in
     is-ending c.args.before.now c.in-Some.reenc.progress c.in_ok-meta.meta c.in_ok-commit.commit
     c.in_ok-wipes.wipes (ends (goal.at.returns-clause-is c).In_ok-meta) c.in_ok-commit.ensures.next

@@ -17,8 +17,8 @@ returns-in-Ok-find_side_keys-clause-unlocked g c =
     (subst (λ (v : Checked). AreKeysFound v.meta v.sizes c.args.pass.now read.values
     c.in-Ok-find_side_keys.keys) c.valid.ensures c.in-Ok-find_side_keys.ensures.found)
     (subst (λ (v : Checked). has_tail v.meta.segments
-    (g.D.Disk.device c.find_side_keys.new.disk).tail ≡ false) c.valid-2.ensures
-    (ap (λ n. has_tail c.valid-2.result.now.meta.segments n) (sym c.tail-tail.ensures)
+    (g.D.Disk.device c.find_side_keys.new.disk).tail ≡ false) c.valid-in-Ok-find_side_keys.ensures
+    (ap (λ n. has_tail c.valid-in-Ok-find_side_keys.result.now.meta.segments n) (sym c.tail-tail.ensures.is)
     ∙ sym c.has_tail.ensures ∙ c.if-has_tail.false))
 
 pub returns-then-has_tail-clause-locked : goal.returns-then-has_tail-clause-locked
@@ -32,9 +32,9 @@ returns-then-has_tail-clause-locked g c =
     c.in-Ok-find_side_keys.ensures.read
     (subst (λ (v : Checked). AreKeysFound v.meta v.sizes c.args.pass.now read.values
     c.in-Ok-find_side_keys.keys) c.valid.ensures c.in-Ok-find_side_keys.ensures.found)
-    c.tail-tail.result c.tail-tail.ensures
-    (subst (λ (v : Checked). has_tail v.meta.segments after.tail ≡ true) c.valid-2.ensures
-    (ap (λ n. has_tail c.valid-2.result.now.meta.segments n) (sym c.tail-tail.ensures)
+    c.tail-tail.result c.tail-tail.ensures.is
+    (subst (λ (v : Checked). has_tail v.meta.segments after.tail ≡ true) c.valid-in-Ok-find_side_keys.ensures
+    (ap (λ n. has_tail c.valid-in-Ok-find_side_keys.result.now.meta.segments n) (sym c.tail-tail.ensures.is)
     ∙ sym c.has_tail.ensures ∙ c.if-has_tail.true))
 
 pub returns-clause-locked : goal.returns-clause-locked

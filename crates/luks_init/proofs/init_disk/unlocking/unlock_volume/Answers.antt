@@ -34,10 +34,10 @@ returns-in-Ok-lose_nothing-clause-unlocked g c =
     (subst (λ (v : Checked). LosesNothing c.args.wish.now v.meta v.sizes
     (g.D.Disk.device c.find_key.new.disk).tail) c.valid-3.ensures
     (subst (λ n. LosesNothing c.args.wish.now c.valid-3.result.now.meta c.valid-3.result.now.sizes n)
-    c.tail.ensures c.in-Ok-lose_nothing.ensures))
+    c.tail.ensures.is c.in-Ok-lose_nothing.ensures))
 
-pub returns-in-Err-lose_nothing-clause-locked : goal.returns-in-Err-lose_nothing-clause-locked
-returns-in-Err-lose_nothing-clause-locked g c =
+pub returns-clause-locked : goal.returns-clause-locked
+returns-clause-locked g c =
     loses_by g.D.Disk.device c.args.disk c.find_key.new.disk c.args.wish.now c.args.pass.now
     c.in-Ok.loaded c.in-Ok-find_key.key (g.D.Disk.device c.read_header-disk.result.0)
     c.read_header-disk.ensures.read
@@ -52,7 +52,7 @@ returns-in-Err-lose_nothing-clause-locked g c =
     (subst (λ (v : Checked). WouldLose c.args.wish.now v.meta v.sizes
     (g.D.Disk.device c.find_key.new.disk).tail c.in-Err-lose_nothing.refusal) c.valid-3.ensures
     (subst (λ n. WouldLose c.args.wish.now c.valid-3.result.now.meta c.valid-3.result.now.sizes n
-    c.in-Err-lose_nothing.refusal) c.tail.ensures c.in-Err-lose_nothing.ensures))
+    c.in-Err-lose_nothing.refusal) c.tail.ensures.is c.in-Err-lose_nothing.ensures))
 
 pub returns-in-Err-find_key-clause-locked : goal.returns-in-Err-find_key-clause-locked
 returns-in-Err-find_key-clause-locked g c =

@@ -35,7 +35,7 @@ laid : (c : In_ok-copy-2) → ◌≡◌ {A = Parts}
     (record {
       keyslots = c.in_ok-copy_entries.field-0;
       tokens = c.in_ok-copy_entries-2.field-0;
-      segments = c.segments.inside.items.items;
+      segments = c.in_ok-segments.segments;
       digests = c.new.result;
       config = c.in_ok-copy.field-0;
       rest = c.in_ok-copy-2.field-0;
@@ -56,7 +56,7 @@ laid c =
     laid-parts m c.args.self.now.valid.now.sizes.atom p c.args.plan.now _
     (c.in_ok-copy_entries.ensures ∙ c.as_slice-6.ensures ∙ ap (λ (x : Parts). x.keyslots) same)
     (c.in_ok-copy_entries-2.ensures ∙ c.as_slice-7.ensures ∙ ap (λ (x : Parts). x.tokens) same)
-    (c.segments.view_is ∙ c.in_ok-segments.ensures
+    (c.in_ok-segments.ensures
     ∙ (λ i. segments_by (atom i) p (runs i) (wholes i)))
     (c.new.ensures ∙ c.in_ok-digests.ensures ∙ (λ i. map (listed_by p (sides i)) (digests i)))
     (c.in_ok-copy.ensures ∙ ap (λ (x : Parts). x.config) same)

@@ -8,7 +8,7 @@ use Rattle.volume_machine.specs.Sound.{IsSound}
 use Rattle.volume_machine.specs.States.{State}
 use Rattle.volume_machine.specs.Works.{Work}
 use Rattle.volume_machine.specs.declared.open.Open.{Open}
-use Rattle.unit_tests.proofs.serving.serve_one.Goals as goal
+use Rattle.volume_tests.proofs.serving.serve_one.Goals as goal
 
 never : false ≡ true → ⊥
 never same = absurd (cc)
