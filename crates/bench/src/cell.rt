@@ -255,7 +255,7 @@ pub(crate) fn measure_sleep<R: Runtime + AllocGlobal + Threads + Wait + Sync + S
 }
 
 /// Asks a cell in two threads, and prints the sum that they leave.
-pub(crate) fn try_turns(rt: &HostRuntime) -> io::Result<()> {
+pub(crate) fn try_turns<R: AllocGlobal + Print + Threads + Wait + Sync>(rt: &R) -> io::Result<()> {
     let (cell, pass) = make(rt)?;
     let sum = ask_in_two(rt, &cell, pass, FEW_TURNS);
     println!(rt; "two threads of {FEW_TURNS} turns: {sum}")

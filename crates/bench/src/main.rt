@@ -24,17 +24,12 @@ fn number_in(word: &String) -> Result<u32> {
     word.as_str().parse().context("the word is no number")
 }
 
-/// Does a little of each.
-fn try_all(rt: &HostRuntime) -> Result<()> {
-    ciphers::try_all(rt)?;
-    keys::try_both(rt)?;
-    Ok(cell::try_turns(rt)?)
-}
-
 fn main(rt: HostRuntime) -> Result<()> {
     let words: Vec<String> = env::args(&rt)?.skip(1).collect(rt.alloc())?;
     let Some((first, rest)) = words.as_slice().split_first() else {
-        return try_all(&rt);
+        ciphers::try_all(&rt)?;
+        keys::try_both(&rt)?;
+        return Ok(cell::try_turns(&rt)?);
     };
     match (first.as_str(), rest) {
         ("ciphers", []) => ciphers::try_all(&rt),
