@@ -8,8 +8,9 @@ use bays::{Link, Manner};
 use file_disk::{FileDisk, PositionedFile};
 use host_edge::{Door, HostLink, HostReader, HostWriter, Listener, Network, accept};
 use sector_disk::Disk;
+use std::alloc::Global;
 use std::cell::Cell;
-use std::io::{self, ErrorKind};
+use std::io::{self, ErrorKind, Stderr};
 use std::net::{OpenListener, SocketAddr, TcpStream};
 use std::os::fd::{AsRawFd, RawFd};
 use std::process::Abort;
@@ -150,14 +151,12 @@ fn fails(link: &mut HostLink<Silent>) -> bool {
 
 /// Asserts that a link of two sessions fails twice to whose listener so many came that went away, all
 /// of whom it met.
-fn is_unheard(rt: &HostRuntime, gone: u32) -> Result<(), Fail> {
-    let alloc = rt.alloc();
+fn is_unheard<R: Abort>(rt: &R, alloc: Global, errors: Stderr, gone: u32) -> Result<(), Fail> {
     let left = Rc::new(alloc, Cell::new(gone))?;
     let door = Door::Listening(Deaf {
         gone: left.clone()?,
     });
     let address = String::from_str(alloc, "somewhere")?;
-    let errors = rt.stderr();
     let mut link = HostLink::new(alloc, Silent, errors, address, door, 2, Manner::QUIET);
     same(rt, (fails(&mut link), fails(&mut link)), (true, true));
     same(rt, (link.faults(), left.get()), (2, 0));
@@ -167,6 +166,6 @@ fn is_unheard(rt: &HostRuntime, gone: u32) -> Result<(), Fail> {
 
 #[test]
 fn a_listener_that_fails_is_a_fault_of_its_link(rt: HostRuntime) -> Result<(), Fail> {
-    is_unheard(&rt, 3)?;
-    is_unheard(&rt, 0)
+    is_unheard(&rt, rt.alloc(), rt.stderr(), 3)?;
+    is_unheard(&rt, rt.alloc(), rt.stderr(), 0)
 }
