@@ -32,14 +32,14 @@ returns-then-limit-len c =
     (sym c.in_default.ensures))
     c.in-Ok.ensures c.in_ok-meta.ensures (c.len-len.ensures ∙ ap length c.in_ok-write.ensures.text)
     (c.saturating_sub-limit.ensures
-    ∙ ap (λ (x : Parts). x.config.json_size - 1) (c.parts.ensures.same ∙ c.meta-2.ensures))
+    ∙ ap (λ (x : Parts). x.config.json_size - 1) (c.parts.ensures.same ∙ c.meta.ensures))
     c.if-limit-len.true
 
 pub returns : goal.returns
 returns c =
     let text = c.len-len.ensures ∙ ap length c.in_ok-write.ensures.text in
     let room = c.saturating_sub-limit.ensures
-    ∙ ap (λ (x : Parts). x.config.json_size - 1) (c.parts.ensures.same ∙ c.meta-2.ensures) in
+    ∙ ap (λ (x : Parts). x.config.json_size - 1) (c.parts.ensures.same ∙ c.meta.ensures) in
     let fits = c.if-limit-len.false in
     record {
       ready = subst (λ (o : Option Idle). unready_by o c.args.pass.now ≡ None) c.idle.ensures
