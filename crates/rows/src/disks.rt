@@ -40,7 +40,13 @@ pub(crate) enum Limit<'a> {
 }
 
 /// A disk of so many atoms, all of whose bytes are this one.
-pub(crate) fn new_shelf(alloc: Global, name: &str, atom: u64, atoms: u64, byte: u8) -> Result<Shelf> {
+pub(crate) fn new_shelf(
+    alloc: Global,
+    name: &str,
+    atom: u64,
+    atoms: u64,
+    byte: u8,
+) -> Result<Shelf> {
     if (atom != 512 && atom != 4096) || atoms > MOST_ATOMS {
         return Err(anyhow!("a disk of {atoms} atoms of {atom} bytes"));
     }
