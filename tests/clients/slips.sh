@@ -13,13 +13,18 @@ at_end() {
 }
 trap at_end EXIT
 
+# What the program printed, without the greeting of a client on the standard streams.
+printed() {
+    tr -d '\0\3' <out | sed 's/^NBDMAGICIHAVEOPT//'
+}
+
 # The program with these words ends with this status and line, and says this among others: STATUS LINE
 # TEXT WORD...
 says() {
     local status=$1 line=$2 text=$3
     shift 3
     "$reencd" "$@" >out 2>err </dev/null
-    expect "$*" "$? $(cat out)" "$status $line"
+    expect "$*" "$? $(printed)" "$status $line"
     grep -qF -- "$text" err || fail "$* doesn't say '$text': $(cat err)"
 }
 
@@ -285,7 +290,7 @@ if command -v cryptsetup >/dev/null; then
     luks --type luks2 --pbkdf pbkdf2 --pbkdf-force-iterations 1000 --cipher aes-xts-plain
     keeps other.img 4 "fault 4 Header" "aes-xts-plain" status other.img
     luks --type luks2 --pbkdf pbkdf2 --pbkdf-force-iterations 1000 --sector-size 4096
-    keeps other.img 4 "fault 4 Header" "--atom 4096" serve other.img --key-file key --atom 512 --listen stdio
+    keeps other.img 4 "fault 4 Header" "another --atom" serve other.img --key-file key --atom 512 --listen stdio
     rm -f backup.img
     cryptsetup luksHeaderBackup other.img --header-backup-file backup.img
     says 4 "fault 4 Header" "header backup" status backup.img
