@@ -115,7 +115,7 @@ refuses_header() {
 refuses_header "2 fault 2 Device reencd: missing: No such file or directory" missing
 truncate -s 16773120 short.img
 refuses_header \
-    "8 fault 8 NoFit reencd: no room for keyslots: 16777216 bytes are wanted, and there are 16773120" short.img
+    "8 fault 8 NoFit reencd: no room in the header's keyslots area: 16777216 bytes are wanted at one place, and there are 16773120 (less --hotzone-size, or a volume with a larger --data-offset)" short.img
 cmp -n 16773120 short.img /dev/zero || fail "the disk of the header was written"
 refuses_header "2 fault 2 Device reencd: refused.img: locked by another process" refused.img
 ln -sf refused.img same.img
@@ -175,12 +175,13 @@ PYTHON
 echo "a header whose first copy lacks is found at its size, and mended"
 
 # what doesn't fit, and what is not there
-refuses "8 fault 8 NoFit reencd: no room for keyslots: 258048 bytes are wanted, and there are 0" \
+refuses "8 fault 8 NoFit reencd: no room in the header's keyslots area: 258048 bytes are wanted at one place, and there are 0 (less --hotzone-size, or a volume with a larger --data-offset)" \
     --key-file key --data-offset 32768
-refuses "8 fault 8 NoFit reencd: a passphrase of 0 bytes, which are to be 1 to 512" --key-file /dev/null
+refuses "8 fault 8 NoFit reencd: the key file has no byte, and a passphrase has 1 to 512" --key-file /dev/null
 head -c 600 /dev/zero >long
-refuses "8 fault 8 NoFit reencd: a passphrase of 513 bytes, which are to be 1 to 512" --key-file long
-refuses "8 fault 8 NoFit reencd: the disk has no room for a block" --key-file key --data-offset 20971520
+refuses "8 fault 8 NoFit reencd: long: 600 bytes, and a passphrase has 512 at most
+reencd: the key file has more than 512 bytes, and a passphrase has 1 to 512" --key-file long
+refuses "8 fault 8 NoFit reencd: the disk has no room for a block (format begins the data at --data-offset, by default byte 16777216)" --key-file key --data-offset 20971520
 refuses "2 fault 2 Device reencd: missing: No such file or directory" --key-file missing
 
 # Whether a volume that a kill left is none or the new one, whose header and keyslot are whole.

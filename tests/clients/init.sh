@@ -121,7 +121,8 @@ while read -r atom direction resilience cipher key_size sector_size zones option
     # shellcheck disable=SC2086
     said=$("$reencd" init volume.img --atom "$atom" --key-file key --iterations 1000 --direction "$direction" \
         --resilience "$resilience" --cipher "$cipher" --key-size "$key_size" --sector-size "$sector_size" $options \
-        2>&1) || fail "init $options: $said"
+        2>changes) || fail "init $options: $said $(cat changes)"
+    expect "what else is said" "$(grep -v -e ' changes from ' -e ' fall from ' changes)" ""
     expect "init --atom $atom $options" "$said" "started reencrypt $direction $resilience"
     expect "state" "$(state_of volume.img "$atom")" "reencrypt $direction $resilience"
     is_begun volume.img old.img "$direction" "$resilience" "$cipher" "$key_size" "$sector_size" "$zones"
@@ -143,7 +144,11 @@ cryptsetup luksFormat --batch-mode --type luks2 --pbkdf pbkdf2 --pbkdf-force-ite
 cryptsetup luksAddKey --batch-mode --pbkdf pbkdf2 --pbkdf-force-iterations 1000 --key-file other made.img key ||
     fail luksAddKey
 cp made.img old.img
-expect "init" "$("$reencd" init made.img --key-file key --iterations 1000 2>&1)" "started reencrypt forward journal"
+"$reencd" init made.img --key-file key --iterations 1000 >out 2>err
+expect "init that would drop a keyslot" "$? $(cat out)" "15 fault 15 Keyslots"
+cmp made.img old.img || fail "the disk was written"
+expect "init" "$("$reencd" init made.img --key-file key --iterations 1000 --drop-keyslots 2>changes)" \
+    "started reencrypt forward journal"
 expect "state" "$(state_of made.img)" "reencrypt forward journal"
 is_begun made.img old.img forward journal aes-xts-plain64 64 512 1048576
 has_copies made.img
@@ -163,9 +168,9 @@ refuses() {
 # what stands in the way
 cp before.img idle.img
 "$reencd" format idle.img --key-file key --iterations 1000 --data-offset 294912 >/dev/null || fail "format"
-refuses "8 fault 8 NoFit reencd: no room for keyslots: 258048 bytes are wanted, and there are 4096" idle.img --key-file key
+refuses "8 fault 8 NoFit reencd: no room in the header's keyslots area: 258048 bytes are wanted at one place, and there are 4096 (less --hotzone-size, or a volume with a larger --data-offset)" idle.img --key-file key
 refuses "5 fault 5 NoKey reencd: the passphrase opens no keyslot; slot 0: it holds no key of the volume under this passphrase" idle.img --key-file other
-refuses "8 fault 8 NoFit reencd: a passphrase of 0 bytes, which are to be 1 to 512" idle.img --key-file /dev/null
+refuses "8 fault 8 NoFit reencd: the key file has no byte, and a passphrase has 1 to 512" idle.img --key-file /dev/null
 refuses "2 fault 2 Device reencd: missing: No such file or directory" idle.img --key-file missing
 refuses "3 fault 3 NoHeader reencd: header: primary: Magic; secondary: Magic" before.img --key-file key
 

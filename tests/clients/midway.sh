@@ -82,7 +82,7 @@ while read -r atom blocks direction zone options; do
     copy_content wanted.bin
     served 1
     # shellcheck disable=SC2086
-    "$reencd" init volume.img --atom "$atom" --key-file key --iterations 1000 --direction "$direction" \
+    "$reencd" init volume.img --drop-keyslots --atom "$atom" --key-file key --iterations 1000 --direction "$direction" \
         --hotzone-size "$zone" $options >/dev/null || fail "init"
     time_resume
     rounds=0

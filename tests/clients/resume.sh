@@ -189,7 +189,7 @@ while read -r atom blocks direction cipher key_size sector options; do
     cp volume.img old.img
     copy_content volume.img "$atom" before.bin
     # shellcheck disable=SC2086
-    "$reencd" init volume.img --atom "$atom" --key-file key --iterations 1000 --direction "$direction" \
+    "$reencd" init volume.img --drop-keyslots --atom "$atom" --key-file key --iterations 1000 --direction "$direction" \
         --cipher "$cipher" --key-size "$key_size" --sector-size "$sector" $options >/dev/null || fail "init"
     cp volume.img begun.img
     expect "a passphrase of the old key alone" \

@@ -11,7 +11,8 @@ atom=4096
 shows() {
     before=$(sha256sum <"$2")
     "$reencd" status "$2" --atom "$atom" >out 2>err </dev/null
-    expect "status of $1" "$? $(cat err)" "0 "
+    # standard error has at most what is said of a copy that isn't as the other one
+    expect "status of $1" "$? $(grep -v "^reencd: the .* copy of the header " err)" "0 "
     "$here/wanted_status.py" "$2" "$atom" >wanted
     cmp -s out wanted || fail "$1: $(diff wanted out)"
     [ "$(sha256sum <"$2")" = "$before" ] || fail "the disk of $1 was written"

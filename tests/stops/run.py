@@ -97,6 +97,8 @@ class Program:
         )
         with server:
             said = server.stderr.readline()
+            while re.match(r"reencd: the (primary|secondary) copy of the header ", said):
+                said = server.stderr.readline()
             found = re.fullmatch(r"reencd: listening on .*:(\d+)\n", said)
             if not found:
                 server.kill()
