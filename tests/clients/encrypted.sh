@@ -71,16 +71,17 @@ done
 
 # what is no passphrase of a volume, and what is no volume
 refuses volume.img cut "5 fault 5 NoKey reencd: the passphrase opens no keyslot; slot 0: it holds no key of the volume under this passphrase"
-refuses volume.img /dev/null "8 fault 8 NoFit reencd: a passphrase of 0 bytes, which are to be 1 to 512"
+refuses volume.img /dev/null "8 fault 8 NoFit reencd: the key file has no byte, and a passphrase has 1 to 512"
 head -c 513 /dev/zero >long
-refuses volume.img long "8 fault 8 NoFit reencd: a passphrase of 513 bytes, which are to be 1 to 512"
+refuses volume.img long "8 fault 8 NoFit reencd: long: 513 bytes, and a passphrase has 512 at most
+reencd: the key file has more than 512 bytes, and a passphrase has 1 to 512"
 refuses volume.img missing "2 fault 2 Device reencd: missing: No such file or directory"
 truncate -s 20M zeros.img
 refuses zeros.img key "3 fault 3 NoHeader reencd: header: primary: Magic; secondary: Magic"
 truncate -s 32M slow.img
 cryptsetup luksFormat --batch-mode --type luks2 --pbkdf argon2id --pbkdf-force-iterations 4 --pbkdf-memory 32 \
     --pbkdf-parallel 1 slow.img key || fail luksFormat
-refuses slow.img key "5 fault 5 NoKey reencd: the passphrase opens no keyslot; slot 0: it isn't supported"
+refuses slow.img key "5 fault 5 NoKey reencd: the passphrase opens no keyslot; slot 0: argon2id isn't supported: \`cryptsetup luksConvertKey --pbkdf pbkdf2\` makes it PBKDF2"
 
 # a keyslot by PBKDF2 beside one by Argon2, and a passphrase whose line feed is cut off by nobody
 # shellcheck disable=SC2086

@@ -156,7 +156,7 @@ if command -v cryptsetup >/dev/null; then
     done
     expect "serve under no passphrase" \
         "$("$reencd" serve volume.img --key-file /dev/null --listen stdio 2>&1 </dev/null; echo $?)" "fault 8 NoFit
-reencd: a passphrase of 0 bytes, which are to be 1 to 512
+reencd: the key file has no byte, and a passphrase has 1 to 512
 8"
     cmp volume.img begun.img || fail "the disk was written"
 fi

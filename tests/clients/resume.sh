@@ -221,7 +221,7 @@ cp idle.img begun.img
 "$reencd" init begun.img --key-file key --iterations 1000 >/dev/null || fail "init"
 refuses "3 fault 3 NoHeader reencd: header: primary: Magic; secondary: Magic" random.img --key-file key
 refuses "6 fault 6 WrongState reencd: nothing is being converted" idle.img --key-file /dev/null
-refuses "8 fault 8 NoFit reencd: a passphrase of 0 bytes, which are to be 1 to 512" begun.img --key-file /dev/null
+refuses "8 fault 8 NoFit reencd: the key file has no byte, and a passphrase has 1 to 512" begun.img --key-file /dev/null
 refuses "2 fault 2 Device reencd: missing: No such file or directory" begun.img --key-file missing
 cp begun.img refused.img
 expect "a wrong key file" "$("$reencd" resume refused.img --key-file other 2>err; echo $?)" "fault 5 NoKey
