@@ -53,7 +53,10 @@ fn sealed_as_one(alloc: Global, lexicon: &Lexicon, words: &str) -> Result<Vec<u8
     let (body, words) = pair(words);
     let (tweak, words) = pair(words);
     let (first, bytes) = pair(words);
-    let (body, tweak) = (aes_of(alloc, lexicon, body)?, aes_of(alloc, lexicon, tweak)?);
+    let (body, tweak) = (
+        aes_of(alloc, lexicon, body)?,
+        aes_of(alloc, lexicon, tweak)?,
+    );
     let mut bytes = lexicon.spelled(alloc, bytes)?;
     if bytes.len() % 16 != 0 {
         return Err(anyhow!("no whole blocks"));
