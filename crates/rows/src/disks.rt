@@ -122,15 +122,26 @@ fn choice_of(alloc: Global, left: &str) -> Result<Choice>
     }
 }
 
+/// The bytes that a disk has, or the disk again where the read failed.
+fn read_once(alloc: Global, disk: MemDisk) -> Result<Result<Vec<u8>, MemDisk>> {
+    let mut disk = disk;
+    let mut bytes = zeros(alloc, disk.atoms() as usize * disk.atom() as usize)?;
+    match disk.read(0, bytes.as_mut_slice()) {
+        Ok(()) => Ok(Ok(bytes)),
+        Err(_) => Ok(Err(disk)),
+    }
+}
+
 /// The bytes that a disk has, of which some calls that come may be to fail.
 fn bytes_on(alloc: Global, disk: MemDisk) -> Result<Vec<u8>> {
     let mut disk = disk;
-    let mut bytes = zeros(alloc, disk.atoms() as usize * disk.atom() as usize)?;
     for _ in 0..TRIES {
-        if disk.read(0, bytes.as_mut_slice()).is_ok() {
-            return Ok(bytes);
+        match read_once(alloc, disk)? {
+            Ok(bytes) => return Ok(bytes),
+            Err(again) => disk = again,
         }
     }
+    drop(disk);
     Err(anyhow!("a disk can't be read"))
 }
 
