@@ -143,7 +143,7 @@ head -c 17825792 /dev/urandom >volume.img
 if command -v cryptsetup >/dev/null; then
     cryptsetup luksAddKey --batch-mode --pbkdf pbkdf2 --pbkdf-force-iterations 1000 --key-file other volume.img key ||
         fail luksAddKey
-    "$reencd" init volume.img --key-file key --iterations 1000 >/dev/null || fail "init"
+    "$reencd" init volume.img --drop-keyslots --key-file key --iterations 1000 >/dev/null || fail "init"
     cp volume.img begun.img
     printf 'none' >none
     for case in "other new" "none old"; do
