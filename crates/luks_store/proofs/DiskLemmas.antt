@@ -125,6 +125,19 @@ keeps-marked size at number bytes old new result call = record {
       (told-since (marked old number).told new.told result call.told);
 }
 
+keeps-read : (size at : ℕ) (bytes : List ℕ) (old new : disk_type)
+    (result : Result (Unit {0}) Failed)
+    → ReadCall size at bytes old new result → KeepsBytes old new
+keeps-read size at bytes old new result call = record {
+  size = call.size;
+  atoms = call.atoms;
+  tail = call.tail;
+  values = call.values;
+  later = call.cause.later;
+  told = λ now is. (let (before, was, reads) = told-since old.told new.told result call.told now is in
+      (before, was, read-marked before now before.mark reads now.mark));
+}
+
 keeps-joined : (a b c : disk_type) → KeepsBytes a b → KeepsBytes b c → KeepsBytes a c
 keeps-joined a b c first later = record {
   size = later.size ∙ first.size;
@@ -147,11 +160,13 @@ keeps-both : (at : ℕ) (bytes : List ℕ) (old new : Joint) (result : Result (U
     → JointRead at bytes old new result
     → KeepsBytes old.head new.head × KeepsBytes old.main new.main
 keeps-both at bytes old new result each = elim each [
-  | inl (empty, same, call) ↦
+  | inl (none, same, call) ↦
+      (keeps-same old.head new.head same, keeps-read _ _ _ old.main new.main _ call)
+  | inr (some, inl (empty, same, call)) ↦
       (keeps-same old.head new.head same, keeps-marked _ _ _ _ old.main new.main _ call)
-  | inr (inl (done, same, call)) ↦
+  | inr (some, inr (inl (done, same, call))) ↦
       (keeps-marked _ _ _ _ old.head new.head _ call, keeps-same old.main new.main same)
-  | inr (inr (front, back)) ↦ (
+  | inr (some, inr (inr (front, back))) ↦ (
     keeps-marked _ _ _ _ old.head new.head _ front,
     keeps-marked _ _ _ _ old.main new.main _ back,
   )

@@ -7,3 +7,4 @@ pub mod JointReads
 pub mod JointWrites
 pub mod JointParts
 pub mod JointKeeps
+pub mod MainCalls

@@ -18,7 +18,7 @@ pub record Device : Type 0 where
   pub faults : ℕ
 
 -- A disk that told its tables with marks before a call tells them after it too. Of one that keeps
--- no marks, as two disks that are joined, its own clauses say how long it goes on.
+-- no marks, as a disk behind a head, its own clauses say how long it goes on.
 abbrev pub GoesOn : Device → Device → Type 0
 GoesOn old new = (before : Told) → old.told ≡ Some before → IsSome new.told ⊎ (before.mark ≡ None)
 

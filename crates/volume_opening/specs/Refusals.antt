@@ -1,8 +1,8 @@
 -- Why a disk's volume isn't opened by a passphrase, and what that leaves.
 use Rattle.std.specs.Prelude.{ℕ, ◌≡◌, ◌⊎◌, ◌<◌, List, length, Option, Some, None, true, false}
-use Rattle.std.specs.Prelude.{Err, IsSome}
+use Rattle.std.specs.Prelude.{Err, IsSome, option_map}
 use Rattle.header_report.specs.Examinations.{TellsFault, sizes_alone}
-use Rattle.sector_disk.specs.JoinedDisks.Joined.{Joint, in_front, joined_disk}
+use Rattle.sector_disk.specs.JoinedDisks.Joined.{Joint, in_front, joined_disk, told_of_used}
 use Rattle.base_terms.specs.declared.disk_sizes.Sizes.{Sizes}
 use Rattle.luks_json.specs.declared.digest.Digest.{Digest}
 use Rattle.luks_json.specs.declared.meta.Parts.{Parts}
@@ -19,6 +19,7 @@ use Rattle.reenc_recovery.specs.Causes.{HasCauseIn, IsCauseIn}
 use Rattle.reenc_recovery.specs.Volumes.{IsUnopened}
 use Rattle.reenc_recovery.specs.declared.fault.OpenCause.{OpenCause}
 use Rattle.sector_disk.specs.Devices.{Device}
+use Rattle.sector_disk.specs.Steps.{Told}
 use Rattle.volume_opening.specs.Openings.{IsFound, IsTried, IsUnderKey, alone}
 use Rattle.volume_opening.specs.Shorts.{IsShort}
 use Rattle.volume_opening.specs.declared.refusal.Refusal.{Refusal}
@@ -73,6 +74,12 @@ pub record AreOf {D : Type 0} (device : D → Device) (joint : Joint) (header : 
   pub size : ℕ
   pub main : device disk ≡ joint.main
   pub head : in_front device size header ≡ joint.head
+
+-- Where no disk of a header is handed back, the tables that were shown are those that the disk tells,
+-- cut to the atoms that were shown.
+abbrev pub TellsAlone : {D : Type 0} → (D → Device) → Device → Option D → D → Type 0
+TellsAlone device shown header disk =
+    header ≡ None → shown.told ≡ option_map {T = Told} (told_of_used shown.atoms) (device disk).told
 
 -- No key was found under the header of a disk, which was only read.
 pub record IsRefusedKey (device : Device) (pass : List ℕ) (new : Device) (refusal : Refusal) :

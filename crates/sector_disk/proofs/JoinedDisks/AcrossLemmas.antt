@@ -32,7 +32,7 @@ take_as_long (suc n) [] = refl
 take_as_long (suc n) (x ∷ xs) = ap (λ rest. x ∷ rest) (take_as_long n xs)
 
 -- a part of a front that reaches so far
-part_of_front : (used at n : ℕ) (xs : List ℕ) → at + n ≤ used
+pub part_of_front : (used at n : ℕ) (xs : List ℕ) → at + n ≤ used
     → take n (drop at (take used xs)) ≡ take n (drop at xs)
 part_of_front used at n xs within =
     let more : used ≡ at + (used - at) = omega (arith, within) in

@@ -8,13 +8,12 @@ use Rattle.base_terms.specs.Causes.{HasCause, Rose}
 use Rattle.sector_disk.specs.Cells.{Cell, synced, IsThinned, AreHeld}
 use Rattle.sector_disk.specs.Devices.{Device, SyncCall, marked}
 use Rattle.sector_disk.specs.JoinedDisks.Joined.{Joint, Follows, both_faults, both_tables, joint_told}
-use Rattle.sector_disk.specs.JoinedDisks.Joined.{joined_disk}
 use Rattle.sector_disk.specs.JoinedDisks.JoinedCalls.{BothSynced}
 use Rattle.sector_disk.specs.JoinedDisks.JoinedLaws.{ShowsDisk}
 use Rattle.sector_disk.specs.Steps.{Told, remarked, IsMoved, MovesOrNot}
 use Rattle.sector_disk.proofs.JoinedDisks.TurnLemmas.{StepIf, Turned, under, turned, turned_or_not, turned_not}
 use Rattle.sector_disk.proofs.JoinedDisks.JointLemmas.{BothStep, IsJointCall, joint_moves, joint_moves_or_not}
-use Rattle.sector_disk.proofs.JoinedDisks.JointLemmas.{moves_by, joint_goes_on}
+use Rattle.sector_disk.proofs.JoinedDisks.JointLemmas.{both_disk, moves_by, joint_goes_on}
 use Rattle.sector_disk.proofs.JoinedDisks.SplitLemmas.{synced_both, thinned_not, thinned_all, thinned_both}
 
 -- two disks between two joint calls, and after one
@@ -119,7 +118,7 @@ Synced cells next = next ≡ map synced cells
 
 pub values_stay : (old new : Joint) → Joins old new → Stays old.head new.head
     → Stays old.main new.main
-    → (joined_disk new).values ≡ (joined_disk old).values
+    → (both_disk new).values ≡ (both_disk old).values
 values_stay old new joins head main = rw (head.values, main.values, joins.used, main.size) refl
 
 -- both tables synced, and a head without atoms with a main disk that was
@@ -148,8 +147,8 @@ sync_ok : (old new : Joint) → Joins old new → Stays old.head new.head → St
     → Turned old.calls of_main Synced old.main.told new.main.told
     → ((cells next : List Cell) → BothStep old of_head of_main Synced Synced cells next
     → Synced cells next)
-    → HasCause {T = Unit {0}} (joined_disk old).faults (joined_disk new).faults (Ok tt)
-    → SyncCall (joined_disk old) (joined_disk new) (Ok tt)
+    → HasCause {T = Unit {0}} (both_disk old).faults (both_disk new).faults (Ok tt)
+    → SyncCall (both_disk old) (both_disk new) (Ok tt)
 sync_ok old new joins head main of_head of_main any turn_head turn_main step cause = record {
   size = main.size;
   atoms = ap₂ (λ a b. a + b) head.atoms joins.used;
@@ -181,8 +180,8 @@ sync_err : (failed : Failed) (old new : Joint) → Joins old new → Stays old.h
     → Stays old.main new.main
     → (called : Bool) × Turned old.calls called IsThinned old.head.told new.head.told
     → (called : Bool) × Turned old.calls called IsThinned old.main.told new.main.told
-    → HasCause {T = Unit {0}} (joined_disk old).faults (joined_disk new).faults (Err failed)
-    → SyncCall (joined_disk old) (joined_disk new) (Err failed)
+    → HasCause {T = Unit {0}} (both_disk old).faults (both_disk new).faults (Err failed)
+    → SyncCall (both_disk old) (both_disk new) (Err failed)
 sync_err failed old new joins head main (of_head, turn_head) (of_main, turn_main) cause = record {
   size = main.size;
   atoms = ap₂ (λ a b. a + b) head.atoms joins.used;
@@ -227,7 +226,7 @@ pub joint_sync : (old new : Joint) (result : Result (Unit {0}) Failed) (Alone : 
     → Joins old new
     → (Alone → (told : Told) × (old.head.told ≡ Some told) × (told.now ≡ []))
     → BothSynced Alone old.calls old.head new.head old.main new.main result
-    → SyncCall (joined_disk old) (joined_disk new) result
+    → SyncCall (both_disk old) (both_disk new) result
 joint_sync old new (Ok tt) Alone joins alone (inl (is_alone, same, call)) =
     let (told, is, none) = alone is_alone in
     sync_ok old new joins (stays_alone _ _ same) (sync_stays _ _ _ _ call) false true refl

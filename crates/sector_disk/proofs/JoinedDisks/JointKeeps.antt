@@ -2,7 +2,7 @@
 -- order.
 use Rattle.std.proofs.Common.{◌≡◌, ℕ, ◌+◌, ◌-◌, ◌^◌, ◌<◌, ◌⊎◌, Bool, true, false, if◌then◌else◌}
 use Rattle.std.proofs.Common.{List, min, Option, Some, None, IsSome, is_some, Result, Ok, Err, refl}
-use Rattle.std.proofs.Common.{sym, ◌∙◌, ap, subst, inl, inr}
+use Rattle.std.proofs.Common.{sym, ◌∙◌, ap, subst, inl, inr, arith}
 use Rattle.std.proofs.lemmas.Bool.{lt-ltb}
 use Rattle.base_terms.specs.declared.failed.Failed.{Failed}
 use Rattle.sector_disk.specs.Cells.{Cell}
@@ -15,6 +15,7 @@ use Rattle.sector_disk.specs.JoinedDisks.JoinedLaws.{ShowsDisk, tells_of}
 use Rattle.sector_disk.specs.Steps.{Told, MovesOrNot, remarked}
 use Rattle.sector_disk.proofs.JoinedDisks.TurnLemmas.{StepIf, Turned, under, turned_not, follows_on}
 use Rattle.sector_disk.proofs.JoinedDisks.JointCalls.{Joins, any_turn}
+use Rattle.sector_disk.proofs.JoinedDisks.JointLemmas.{shown_both}
 
 -- any step
 abbrev Any : List Cell → List Cell → Type 0
@@ -197,8 +198,10 @@ keeps_joint old new joins head main = record {
     used = joins.used;
     head_was = joins.head_was;
     main_was = joins.main_was;
-    tells = λ below some. joint_tells old new joins head.tells main.tells below (joint_told old)
-        refl some;
+    tells = λ some below told. subst IsSome
+        (sym (shown_both new (omega (arith, some, head.atoms))))
+        (joint_tells old new joins head.tells main.tells below (joint_told old) refl
+        (subst IsSome (shown_both old some) told));
   };
 }
 

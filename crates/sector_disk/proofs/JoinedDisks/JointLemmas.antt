@@ -1,18 +1,36 @@
 -- Lemmas on what a call on one of two joined disks, or on both, does to what they tell as one.
 use Rattle.std.proofs.Common.{◌≡◌, ℕ, suc, ◌+◌, ◌-◌, ◌^◌, ◌<◌, ◌||◌, Bool, true, false}
 use Rattle.std.proofs.Common.{if◌then◌else◌, List, [], ◌∷◌, ◌++◌, take, min, Option, Some, None}
-use Rattle.std.proofs.Common.{refl, sym, ◌∙◌, ap, ap₂, inl, inr, arith}
+use Rattle.std.proofs.Common.{refl, sym, ◌∙◌, ap, ap₂, subst, inl, inr, arith}
 use Rattle.std.proofs.lemmas.List.{append-nil}
-use Rattle.std.proofs.lemmas.Bool.{lt-ltb}
+use Rattle.std.proofs.lemmas.Bool.{lt-ltb, ne_eqb}
 use Rattle.sector_disk.specs.Cells.{Cell}
 use Rattle.sector_disk.specs.Devices.{Device}
 use Rattle.sector_disk.specs.JoinedDisks.Joined.{Joint, Follows, begun_joint, used_atoms, both_tables}
 use Rattle.sector_disk.specs.JoinedDisks.Joined.{tables_of_both, told_by_both, with_marks, told_of, joint_told}
-use Rattle.sector_disk.specs.JoinedDisks.Joined.{last_call}
+use Rattle.sector_disk.specs.JoinedDisks.Joined.{joined_disk, joined_telling, last_call, shown_told}
+use Rattle.sector_disk.specs.JoinedDisks.Joined.{told_by_main}
 use Rattle.sector_disk.specs.JoinedDisks.JoinedLaws.{tells_of, told_below, told_of_marked}
 use Rattle.sector_disk.specs.Steps.{Told, Moves, MovesOrNot}
 use Rattle.sector_disk.proofs.JoinedDisks.TurnLemmas.{StepIf, Turned, Keeps, new_call, keeps_of, older_tables}
 use Rattle.sector_disk.proofs.JoinedDisks.TurnLemmas.{own_call}
+
+-- a disk of two that tells the tables of both, as one with a head of atoms does
+abbrev pub both_disk : Joint → Device
+both_disk joint = joined_telling joint (joint_told joint)
+
+pub shown_both : (joint : Joint) → 0 < joint.head.atoms → shown_told joint ≡ joint_told joint
+shown_both joint some =
+    ap (λ empty. if empty then told_by_main joint.used joint.head.values joint.main.told
+    else joint_told joint) (ne_eqb joint.head.atoms 0 (λ is. omega (arith, is, some)))
+
+pub as_joined : (Call : Device → Device → Type 0) (old new : Joint) → 0 < old.head.atoms
+    → new.head.atoms ≡ old.head.atoms
+    → Call (both_disk old) (both_disk new) → Call (joined_disk old) (joined_disk new)
+as_joined Call old new some same call =
+    subst (λ tells. Call (joined_telling old tells) (joined_disk new)) (sym (shown_both old some))
+    (subst (λ tells. Call (both_disk old) (joined_telling new tells))
+    (sym (shown_both new (omega (arith, same, some)))) call)
 
 -- both disks' tables moved, each by its step where it was called
 pub record BothStep (old : Joint) (of_head of_main : Bool)

@@ -5,8 +5,8 @@ use Rattle.std.proofs.lemmas.List.{take_at, drop_at}
 use Rattle.base_terms.specs.declared.failed.Failed.{Failed}
 use Rattle.sector_disk.specs.Devices.{Device}
 use Rattle.sector_disk.specs.JoinedDisks.Joined.{Joint}
-use Rattle.sector_disk.specs.JoinedDisks.JoinedCalls.{BothRead, BothWritten, BothSynced, JointRead}
-use Rattle.sector_disk.specs.JoinedDisks.JoinedCalls.{JointWritten, bytes_on_head}
+use Rattle.sector_disk.specs.JoinedDisks.JoinedCalls.{BothRead, BothWritten, BothSynced, EachRead}
+use Rattle.sector_disk.specs.JoinedDisks.JoinedCalls.{EachWritten, bytes_on_head}
 use Rattle.sector_disk.proofs.JoinedDisks.JointReads.{bytes_between}
 use Rattle.sector_disk.proofs.JoinedDisks.JointWrites.{take_min, drop_min}
 
@@ -30,7 +30,7 @@ pub read_parts : (at behind atom base cut len : ℕ) (front back : List ℕ) (ol
     → length (front ++ back) ≡ len → behind ≡ at - base
     → BothRead old.main.size at behind front back old.calls old.head new.head old.main new.main
     result
-    → JointRead at (front ++ back) old new result
+    → EachRead at (front ++ back) old new result
 read_parts at behind atom base cut len front back old new result size base_is front_is cut_is long
     behind_is both =
     let on_head = bytes_on_head old at in
@@ -50,7 +50,7 @@ pub write_parts : (at behind atom base cut : ℕ) (body front back : List ℕ) (
     → cut ≡ min (base * atom - at * atom) (length body) → behind ≡ at - base
     → BothWritten old.main.size at behind front back old.calls old.head new.head old.main new.main
     result
-    → JointWritten at body old new result
+    → EachWritten at body old new result
 write_parts at behind atom base cut body front back old new result size base_is front_is back_is
     cut_is behind_is both =
     let on_head = bytes_on_head old at in

@@ -8,13 +8,13 @@ use Rattle.base_terms.specs.declared.failed.Failed.{Failed}
 use Rattle.base_terms.specs.Causes.{HasCause}
 use Rattle.sector_disk.specs.Cells.{Cell}
 use Rattle.sector_disk.specs.Devices.{Device, ReadCall, marked}
-use Rattle.sector_disk.specs.JoinedDisks.Joined.{Joint, both_tables, joint_told, joined_disk}
+use Rattle.sector_disk.specs.JoinedDisks.Joined.{Joint, both_tables, joint_told}
 use Rattle.sector_disk.specs.JoinedDisks.JoinedCalls.{BothRead}
 use Rattle.sector_disk.specs.JoinedDisks.JoinedLaws.{ShowsDisk, both_told}
 use Rattle.sector_disk.specs.Steps.{IsKept}
 use Rattle.sector_disk.proofs.JoinedDisks.TurnLemmas.{StepIf, Turned, turned, turned_not}
 use Rattle.sector_disk.proofs.JoinedDisks.JointLemmas.{BothStep, joint_moves, joint_moves_or_not, moves_by}
-use Rattle.sector_disk.proofs.JoinedDisks.JointLemmas.{joint_goes_on}
+use Rattle.sector_disk.proofs.JoinedDisks.JointLemmas.{both_disk, joint_goes_on}
 use Rattle.sector_disk.proofs.JoinedDisks.JointCalls.{Joins, Stays, any_turn, not_turn, is_call, cause_left}
 use Rattle.sector_disk.proofs.JoinedDisks.JointCalls.{cause_right, stays_alone, values_stay}
 use Rattle.sector_disk.proofs.JoinedDisks.AcrossLemmas.{read_both}
@@ -54,21 +54,21 @@ kept_step of_head of_main old cells next step =
     (kept_if of_main step.main.now step.next_main step.main_step) ∙ sym step.old_is
 
 -- what a part read, where its disk tells its bytes
-abbrev HasRead : ℕ → ℕ → List ℕ → Device → Type 0
+abbrev pub HasRead : ℕ → ℕ → List ℕ → Device → Type 0
 HasRead size at bytes disk =
     (values : List ℕ) → disk.values ≡ Some values
     → bytes ≡ take (length bytes) (drop (at * size) values)
 
-read_none : (size at : ℕ) (bytes : List ℕ) (disk : Device) → length bytes ≡ 0
+pub read_none : (size at : ℕ) (bytes : List ℕ) (disk : Device) → length bytes ≡ 0
     → HasRead size at bytes disk
 read_none size at bytes disk none values is =
     let empty : bytes ≡ [] = nil_from_length bytes none in
     empty ∙ sym (ap (λ n. take n (drop (at * size) values)) none)
 
-across : (at : ℕ) (front back : List ℕ) (old : Joint) → ShowsDisk old.head → Parts old at front back
+pub across : (at : ℕ) (front back : List ℕ) (old : Joint) → ShowsDisk old.head → Parts old at front back
     → HasRead old.main.size at front old.head
     → HasRead old.main.size (at - old.head.atoms) back old.main
-    → (bytes : List ℕ) → (joined_disk old).values ≡ Some bytes
+    → (bytes : List ℕ) → (both_disk old).values ≡ Some bytes
     → front ++ back ≡ take (length (front ++ back)) (drop (at * old.main.size) bytes)
 across at front back old shows parts of_front of_back bytes is =
     let both = both_told _ _ _ bytes is in
@@ -94,8 +94,8 @@ read_ok : (at : ℕ) (front back : List ℕ) (old new : Joint) → Joins old new
     → Turned old.calls of_main IsKept old.main.told new.main.told
     → HasRead old.main.size at front old.head
     → HasRead old.main.size (at - old.head.atoms) back old.main
-    → HasCause {T = Unit {0}} (joined_disk old).faults (joined_disk new).faults (Ok tt)
-    → ReadCall old.main.size at (front ++ back) (joined_disk old) (joined_disk new) (Ok tt)
+    → HasCause {T = Unit {0}} (both_disk old).faults (both_disk new).faults (Ok tt)
+    → ReadCall old.main.size at (front ++ back) (both_disk old) (both_disk new) (Ok tt)
 read_ok at front back old new joins parts head main of_head of_main any turn_head turn_main of_front
     of_back cause = record {
       size = main.size;
@@ -116,8 +116,8 @@ read_err : (at : ℕ) (front back : List ℕ) (failed : Failed) (old new : Joint
     → Stays old.head new.head → Stays old.main new.main
     → (called : Bool) × Turned old.calls called IsKept old.head.told new.head.told
     → (called : Bool) × Turned old.calls called IsKept old.main.told new.main.told
-    → HasCause {T = Unit {0}} (joined_disk old).faults (joined_disk new).faults (Err failed)
-    → ReadCall old.main.size at (front ++ back) (joined_disk old) (joined_disk new) (Err failed)
+    → HasCause {T = Unit {0}} (both_disk old).faults (both_disk new).faults (Err failed)
+    → ReadCall old.main.size at (front ++ back) (both_disk old) (both_disk new) (Err failed)
 read_err at front back failed old new joins head main (of_head, turn_head) (of_main, turn_main)
     cause = record {
       size = main.size;
@@ -143,7 +143,7 @@ pub joint_read : (at : ℕ) (front back : List ℕ) (old new : Joint)
     → Parts old at front back
     → BothRead old.main.size at (at - old.head.atoms) front back old.calls old.head new.head
     old.main new.main result
-    → ReadCall old.main.size at (front ++ back) (joined_disk old) (joined_disk new) result
+    → ReadCall old.main.size at (front ++ back) (both_disk old) (both_disk new) result
 joint_read at front back old new (Ok tt) joins parts (inl (none, same, call)) =
     read_ok at front back old new joins parts (stays_alone _ _ same) (read_stays _ _ _ _ _ _ _ call)
     false true refl
@@ -193,7 +193,7 @@ pub read_joined : (at behind atom base cut len : ℕ) (front back : List ℕ) (o
     → behind ≡ at - base
     → BothRead old.main.size at behind front back old.calls old.head new.head old.main new.main
     result
-    → ReadCall old.main.size at (front ++ back) (joined_disk old) (joined_disk new) result
+    → ReadCall old.main.size at (front ++ back) (both_disk old) (both_disk new) result
 read_joined at behind atom base cut len front back old new result joins size head_size base_is fits
     within front_is cut_is long behind_is both =
     joint_read at front back old new result joins

@@ -13,14 +13,14 @@ use Rattle.base_terms.proofs.BlockLemmas.{pasted-nil, changed-nil}
 use Rattle.sector_disk.specs.Cells.{Cell, wrote, currents, IsTried}
 use Rattle.sector_disk.specs.Devices.{Device, WriteCall, marked}
 use Rattle.sector_disk.specs.Geometry.{IsAtom, IsInDisk}
-use Rattle.sector_disk.specs.JoinedDisks.Joined.{Joint, both_tables, both_values, joint_told, joined_disk}
+use Rattle.sector_disk.specs.JoinedDisks.Joined.{Joint, both_tables, both_values, joint_told}
 use Rattle.sector_disk.specs.JoinedDisks.JoinedCalls.{BothWritten}
 use Rattle.sector_disk.specs.JoinedDisks.JoinedLaws.{ShowsDisk, both_told}
 use Rattle.sector_disk.specs.Steps.{Told}
 use Rattle.sector_disk.specs.Values.{SameOutside}
 use Rattle.sector_disk.proofs.JoinedDisks.TurnLemmas.{StepIf, Turned, under, turned, turned_not}
 use Rattle.sector_disk.proofs.JoinedDisks.JointLemmas.{BothStep, joint_moves, joint_moves_or_not, moves_by}
-use Rattle.sector_disk.proofs.JoinedDisks.JointLemmas.{joint_goes_on}
+use Rattle.sector_disk.proofs.JoinedDisks.JointLemmas.{both_disk, joint_goes_on}
 use Rattle.sector_disk.proofs.JoinedDisks.JointCalls.{Joins, any_turn, not_turn, is_call, cause_left}
 use Rattle.sector_disk.proofs.JoinedDisks.JointCalls.{cause_right}
 use Rattle.sector_disk.proofs.JoinedDisks.JointReads.{bytes_between}
@@ -229,8 +229,8 @@ values_told : (old new : Joint) (at n : ℕ) (body front back : List ℕ) → Jo
     → new.main.size ≡ old.main.size
     → HasWritten old.main.size at front old.head new.head
     → HasWritten old.main.size (at - old.head.atoms) back old.main new.main
-    → (bytes : List ℕ) → (joined_disk old).values ≡ Some bytes
-    → (joined_disk new).values ≡ Some (pasted bytes (at * old.main.size) body)
+    → (bytes : List ℕ) → (both_disk old).values ≡ Some bytes
+    → (both_disk new).values ≡ Some (pasted bytes (at * old.main.size) body)
 values_told old new at n body front back joins spans size of_head of_main bytes is =
     let both = both_told _ _ _ bytes is in
     let long = head_long old new at n body front back both.front spans joins.head both.head_is in
@@ -263,8 +263,8 @@ values_left : (old new : Joint) (at n : ℕ) (body front back : List ℕ) → Jo
     → new.head.atoms ≡ old.head.atoms → new.main.atoms ≡ old.main.atoms
     → HasTried old.main.size at front old.head new.head
     → HasTried old.main.size (at - old.head.atoms) back old.main new.main
-    → (bytes : List ℕ) → (joined_disk old).values ≡ Some bytes
-    → (left : List ℕ) × ((joined_disk new).values ≡ Some left)
+    → (bytes : List ℕ) → (both_disk old).values ≡ Some bytes
+    → (left : List ℕ) × ((both_disk new).values ≡ Some left)
     × SameOutside (at * old.main.size) (length body) bytes left
 values_left old new at n body front back joins spans size head_size head_atoms main_atoms of_head
     of_main bytes is =
@@ -354,8 +354,8 @@ write_ok : (of_head of_main : Bool) (at n : ℕ) (body front back : List ℕ) (o
     old.main.told new.main.told
     → HasWritten old.main.size at front old.head new.head
     → HasWritten old.main.size (at - old.head.atoms) back old.main new.main
-    → HasCause {T = Unit {0}} (joined_disk old).faults (joined_disk new).faults (Ok tt)
-    → WriteCall old.main.size at body (joined_disk old) (joined_disk new) (Ok tt)
+    → HasCause {T = Unit {0}} (both_disk old).faults (both_disk new).faults (Ok tt)
+    → WriteCall old.main.size at body (both_disk old) (both_disk new) (Ok tt)
 write_ok of_head of_main at n body front back old new joins spans head main any no_front no_back
     turn_head turn_main wrote_head wrote_main cause = record {
       size = main.size;
@@ -388,8 +388,8 @@ write_err : (at n : ℕ) (body front back : List ℕ) (failed : Failed) (old new
     old.main.told new.main.told
     → HasTried old.main.size at front old.head new.head
     → HasTried old.main.size (at - old.head.atoms) back old.main new.main
-    → HasCause {T = Unit {0}} (joined_disk old).faults (joined_disk new).faults (Err failed)
-    → WriteCall old.main.size at body (joined_disk old) (joined_disk new) (Err failed)
+    → HasCause {T = Unit {0}} (both_disk old).faults (both_disk new).faults (Err failed)
+    → WriteCall old.main.size at body (both_disk old) (both_disk new) (Err failed)
 write_err at n body front back failed old new joins spans head main (of_head, turn_head)
     (of_main, turn_main) tried_head tried_main cause = record {
       size = main.size;
@@ -423,7 +423,7 @@ pub joint_write : (at n : ℕ) (body front back : List ℕ) (old new : Joint)
     → Spans old new at n body front back
     → BothWritten old.main.size at (at - old.head.atoms) front back old.calls old.head new.head
     old.main new.main result
-    → WriteCall old.main.size at body (joined_disk old) (joined_disk new) result
+    → WriteCall old.main.size at body (both_disk old) (both_disk new) result
 joint_write at n body front back old new (Ok tt) joins spans (inl (none, same, call)) =
     write_ok false true at n body front back old new joins spans (same_sizes _ _ same)
     (write_sizes _ _ _ _ _ _ _ call) refl
@@ -486,7 +486,7 @@ pub write_joined : (at behind atom base cut : ℕ) (body front back : List ℕ) 
     → cut ≡ min (base * atom - at * atom) (length body) → behind ≡ at - base
     → BothWritten old.main.size at behind front back old.calls old.head new.head old.main new.main
     result
-    → WriteCall old.main.size at body (joined_disk old) (joined_disk new) result
+    → WriteCall old.main.size at body (both_disk old) (both_disk new) result
 write_joined at behind atom base cut body front back old new result joins head_after main_after size
     head_size base_is fits some place
     front_is back_is cut_is behind_is both =

@@ -145,7 +145,7 @@ tried_cut (x ∷ xs) (suc at) (suc k) (value ∷ values) [] enough is = absurd i
 tried_cut (x ∷ xs) (suc at) (suc k) (value ∷ values) (next ∷ nx) enough is =
     (is.0, tried_cut xs at (suc k) (value ∷ values) nx (omega (arith, enough)) is.1)
 
-tried_take : (n : ℕ) (xs : List Cell) (at : ℕ) (values : List (List ℕ)) (nx : List Cell)
+pub tried_take : (n : ℕ) (xs : List Cell) (at : ℕ) (values : List (List ℕ)) (nx : List Cell)
     → IsTried xs at values nx → IsTried (take n xs) at values (take n nx)
 unfolding IsTried
 tried_take zero xs at values nx is = refl
@@ -206,7 +206,7 @@ thinned_append (x ∷ xs) ys [] ny of_xs of_ys = absurd of_xs
 thinned_append (x ∷ xs) ys (next ∷ nx) ny of_xs of_ys =
     (of_xs.0, thinned_append xs ys nx ny of_xs.1 of_ys)
 
-thinned_take : (n : ℕ) (xs nx : List Cell) → IsThinned xs nx → IsThinned (take n xs) (take n nx)
+pub thinned_take : (n : ℕ) (xs nx : List Cell) → IsThinned xs nx → IsThinned (take n xs) (take n nx)
 unfolding IsThinned
 thinned_take zero xs nx is = tt
 thinned_take (suc n) [] [] is = tt
@@ -270,7 +270,7 @@ pasted_append (x ∷ xs) ys (suc at) (c ∷ text) =
     )
     (ap (λ rest. x ∷ rest) (pasted_append xs ys at (c ∷ text)))
 
-take_pasted : (n : ℕ) (xs : List ℕ) (at : ℕ) (text : List ℕ) → at + length text ≤ n → n ≤ length xs
+pub take_pasted : (n : ℕ) (xs : List ℕ) (at : ℕ) (text : List ℕ) → at + length text ≤ n → n ≤ length xs
     → take n (pasted xs at text) ≡ pasted (take n xs) at text
 take_pasted n xs at [] within fits = rw (pasted-nil xs at, pasted-nil (take n xs) at) refl
 take_pasted zero xs at (c ∷ text) within fits = absurd (omega (arith, within))

@@ -4,7 +4,7 @@ use Rattle.std.specs.Prelude.{◌≡◌, ◌+◌, ◌<◌, ◌≤◌, min, Bool,
 use Rattle.base_terms.specs.declared.disk_sizes.Sizes.{Sizes}
 use Rattle.sector_disk.specs.Devices.{Device}
 use Rattle.sector_disk.specs.declared.device.Disk.{Ghosts}
-use Rattle.sector_disk.specs.JoinedDisks.Joined.{Joint, joint_of, joint_told, last_call}
+use Rattle.sector_disk.specs.JoinedDisks.Joined.{Joint, joint_of, last_call, shown_told}
 use Rattle.sector_disk.specs.declared.joined.joined.JoinedDisk.{JoinedDisk}
 
 -- both disks, by what each of them shows
@@ -36,10 +36,11 @@ pub record HasSizes (sizes : Sizes) (device : Device) : Type 0 where
   pub alone : sizes.detached ≡ false → sizes.header_atoms ≡ sizes.main_atoms
 
 -- One device call more was counted, and what the disks were when they were joined stands. Below the
--- full count a disk that told its tables tells them after it.
+-- full count a disk with a head of atoms that told its tables tells them after it.
 pub record Counts (old new : Joint) : Type 0 where
   pub calls : new.calls ≡ min (old.calls + 1) last_call
   pub used : new.used ≡ old.used
   pub head_was : new.head_was ≡ old.head_was
   pub main_was : new.main_was ≡ old.main_was
-  pub tells : new.calls < last_call → IsSome (joint_told old) → IsSome (joint_told new)
+  pub tells : 0 < old.head.atoms → new.calls < last_call → IsSome (shown_told old)
+      → IsSome (shown_told new)

@@ -1,9 +1,9 @@
 -- Two disks joined to one: what it shows, and in which order its disks' tables stand.
 use Rattle.std.specs.Prelude.{ℕ, zero, suc, ◌≡◌, ◌+◌, ◌-◌, ◌*◌, ◌/◌, ◌^◌, ◌<◌, ◌≤◌, ◌==◌, ◌||◌}
-use Rattle.std.specs.Prelude.{Bool, false, nat_lt, List, [], ◌∷◌, ◌++◌, length, take, drop, min}
-use Rattle.std.specs.Prelude.{Option, Some, None, if◌then◌else◌}
+use Rattle.std.specs.Prelude.{Bool, false, nat_lt, List, [], ◌∷◌, ◌++◌, length, take, drop, min, map}
+use Rattle.std.specs.Prelude.{Option, Some, None, option_map, if◌then◌else◌}
 use Rattle.sector_disk.specs.Cells.{Cell}
-use Rattle.sector_disk.specs.Devices.{Device}
+use Rattle.sector_disk.specs.Devices.{Device, marked}
 use Rattle.sector_disk.specs.Steps.{Told}
 
 -- a disk without atoms, which has made no call
@@ -106,13 +106,34 @@ told_of used calls (Some head_was) (Some head) (Some main_was) (Some main) =
     Some (told_by_both used calls head_was head main_was main)
 told_of used calls _ _ _ _ = None
 
--- a disk of two tells its tables as long as both tell theirs with marks and its count isn't full
+-- both disks of two tell the tables as long as both tell theirs with marks and the count isn't full
 abbrev pub joint_told : Joint → Option Told
 joint_told joint =
     if nat_lt joint.calls last_call
     then told_of joint.used joint.calls joint.head_was.told (with_marks joint.head.told)
     joint.main_was.told (with_marks joint.main.told)
     else None
+
+-- what a disk tells of its first `used` atoms: its tables, each cut there, and its marks
+abbrev pub told_of_used : ℕ → Told → Told
+told_of_used used told = record {
+  now = take used told.now;
+  past = map (λ call. (call.0, take used call.1)) told.past;
+  mark = told.mark;
+}
+
+-- what is told behind a head without atoms, where the head tells its bytes, of which there are none:
+-- what the main disk tells of the atoms that are used
+abbrev pub told_by_main : ℕ → Option (List ℕ) → Option Told → Option Told
+told_by_main used None main = None
+told_by_main used (Some none) main = option_map (told_of_used used) main
+
+-- a disk of two tells its tables: by both disks, or by the main disk alone where the head has no
+-- atoms
+abbrev pub shown_told : Joint → Option Told
+shown_told joint =
+    if joint.head.atoms == 0 then told_by_main joint.used joint.head.values joint.main.told
+    else joint_told joint
 
 -- the current bytes of both, where both tell them
 abbrev pub both_values : ℕ → Option (List ℕ) → Option (List ℕ) → Option (List ℕ)
@@ -123,17 +144,26 @@ both_values len _ _ = None
 abbrev pub both_faults : ℕ → ℕ → ℕ
 both_faults head main = min (head + main) (2 ^ 64 - 1)
 
--- what a disk of two shows: the atoms of the head, and behind them those of the main disk that are
--- used; its end is that of the main disk
-abbrev pub joined_disk : Joint → Device
-joined_disk joint = record {
+-- a disk of two that tells so: the atoms of the head, and behind them those of the main disk that
+-- are used; its end is that of the main disk
+abbrev pub joined_telling : Joint → Option Told → Device
+joined_telling joint told = record {
   size = joint.main.size;
   atoms = joint.head.atoms + joint.used;
   tail = joint.main.tail;
   values = both_values (joint.used * joint.main.size) joint.head.values joint.main.values;
-  told = joint_told joint;
+  told = told;
   faults = both_faults joint.head.faults joint.main.faults;
 }
+
+-- what a disk of two shows
+abbrev pub joined_disk : Joint → Device
+joined_disk joint = joined_telling joint (shown_told joint)
+
+-- a mark is the main disk's where the head has no atoms, and else it is none
+abbrev pub marked_joint : Joint → ℕ → Joint
+marked_joint joint number =
+    if joint.head.atoms == 0 then record joint { main = marked joint.main number } else joint
 
 -- of disks that are joined now
 abbrev pub begun_joint : Device → Device → Joint

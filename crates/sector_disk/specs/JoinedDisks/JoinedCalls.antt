@@ -1,5 +1,5 @@
 -- One call on two joined disks, as each of them saw it.
-use Rattle.std.specs.Prelude.{ℕ, ◌≡◌, ◌⊎◌, ◌-◌, ◌*◌, Bool, false, List, length, take, drop, Result}
+use Rattle.std.specs.Prelude.{ℕ, ◌≡◌, ◌⊎◌, ◌-◌, ◌*◌, ◌<◌, List, length, take, drop, Result}
 use Rattle.std.specs.Prelude.{Ok, IsOk}
 use Rattle.base_terms.specs.declared.failed.Failed.{Failed}
 use Rattle.sector_disk.specs.JoinedDisks.Joined.{Joint}
@@ -39,19 +39,39 @@ bytes_on_head joint at = (joint.head.atoms - at) * joint.main.size
 -- Of a call on whole atoms the head gets what lies on it, and the main disk the rest. Each disk is
 -- called at most once, the head first, and after a call on it that failed the main disk isn't
 -- called.
-abbrev pub JointRead : ℕ → List ℕ → Joint → Joint → Result (Unit {0}) Failed → Type 0
-JointRead at bytes old new =
+abbrev pub EachRead : ℕ → List ℕ → Joint → Joint → Result (Unit {0}) Failed → Type 0
+EachRead at bytes old new =
     BothRead old.main.size at (at - old.head.atoms) (take (bytes_on_head old at) bytes)
     (drop (bytes_on_head old at) bytes)
     old.calls old.head new.head old.main new.main
 
-abbrev pub JointWritten : ℕ → List ℕ → Joint → Joint → Result (Unit {0}) Failed → Type 0
-JointWritten at bytes old new =
+abbrev pub EachWritten : ℕ → List ℕ → Joint → Joint → Result (Unit {0}) Failed → Type 0
+EachWritten at bytes old new =
     BothWritten old.main.size at (at - old.head.atoms) (take (bytes_on_head old at) bytes)
     (drop (bytes_on_head old at) bytes)
     old.calls old.head new.head old.main new.main
 
 -- a sync is of both
-abbrev pub JointSynced : Bool → Joint → Joint → Result (Unit {0}) Failed → Type 0
-JointSynced has_head old new =
-    BothSynced (has_head ≡ false) old.calls old.head new.head old.main new.main
+abbrev pub EachSynced : Joint → Joint → Result (Unit {0}) Failed → Type 0
+EachSynced old new = BothSynced ⊥ old.calls old.head new.head old.main new.main
+
+-- Where the head has no atoms it was left alone, and the call is the main disk's own, under the
+-- marks that this has. Else each disk had its part.
+abbrev pub ByHead : (Device → Device → Type 0) → Type 0 → Joint → Joint → Type 0
+ByHead Main Each old new =
+    ((old.head.atoms ≡ 0) × (new.head ≡ old.head) × Main old.main new.main)
+    ⊎ ((0 < old.head.atoms) × Each)
+
+abbrev pub JointRead : ℕ → List ℕ → Joint → Joint → Result (Unit {0}) Failed → Type 0
+JointRead at bytes old new result =
+    ByHead (λ main main'. ReadCall main.size at bytes main main' result)
+    (EachRead at bytes old new result) old new
+
+abbrev pub JointWritten : ℕ → List ℕ → Joint → Joint → Result (Unit {0}) Failed → Type 0
+JointWritten at bytes old new result =
+    ByHead (λ main main'. WriteCall main.size at bytes main main' result)
+    (EachWritten at bytes old new result) old new
+
+abbrev pub JointSynced : Joint → Joint → Result (Unit {0}) Failed → Type 0
+JointSynced old new result =
+    ByHead (λ main main'. SyncCall main main' result) (EachSynced old new result) old new

@@ -5,9 +5,10 @@ use Rattle.std.specs.Coded.{Π_prop, →_prop, ×_prop, le_prop, Coded, Coded-se
 use Rattle.std.specs.Coded.{coded_list, coded×, code_by}
 use Rattle.std.specs.List.{AllByRecursion}
 use Rattle.std.proofs.Common.{sym, ◌∙◌, ap, ap₂, subst, arith, length-append, append_assoc, Bool}
-use Rattle.std.proofs.Common.{true, false, if◌then◌else◌, nat_lt}
-use Rattle.std.proofs.lemmas.Bool.{ltb-true}
+use Rattle.std.proofs.Common.{true, false, if◌then◌else◌, nat_lt, ◌==◌}
+use Rattle.std.proofs.lemmas.Bool.{eqb-true, ltb-true}
 use Rattle.std.proofs.lemmas.List.{length-take-le, take-replicate, replicate-append-replicate}
+use Rattle.std.proofs.lemmas.List.{nil_from_length}
 use Rattle.std.proofs.Math.Nat.{mul-le-mul_right}
 use Rattle.base_terms.specs.Blocks.{joined, lengths}
 use Rattle.base_terms.proofs.BlockLemmas.{take_behind, even_front, even_rest}
@@ -16,7 +17,7 @@ use Rattle.sector_disk.specs.Devices.{Device}
 use Rattle.sector_disk.specs.Geometry.{IsDisk}
 use Rattle.sector_disk.specs.JoinedDisks.Joined.{Joint, Follows, nothing, in_front, both_values, told_by_both}
 use Rattle.sector_disk.specs.JoinedDisks.Joined.{told_with_mark, with_marks, told_of, joint_told, joined_disk}
-use Rattle.sector_disk.specs.JoinedDisks.Joined.{last_call}
+use Rattle.sector_disk.specs.JoinedDisks.Joined.{joined_telling, last_call, told_by_main, told_of_used}
 use Rattle.sector_disk.specs.Steps.{Told}
 
 cells_coded : Coded (List Cell)
@@ -244,11 +245,11 @@ whole_joint size head main used front back of_front of_back fits =
     ∙ ap₂ (λ a b. a + b) of_front (length-take-le (used * size) back (omega (arith, most, of_back)))
     ∙ (let e : head * size + used * size ≡ (head + used) * size = grind arith in e)
 
--- two joined disks show what a disk shows
-pub shows_joint : (joint : Joint) → ShowsDisk joint.head → ShowsDisk joint.main
+-- two joined disks that tell the tables of both show what a disk shows
+shows_both : (joint : Joint) → ShowsDisk joint.head → ShowsDisk joint.main
     → joint.head.size ≡ joint.main.size
-    → joint.used ≤ joint.main.atoms → ShowsDisk (joined_disk joint)
-shows_joint joint head main same fits = record {
+    → joint.used ≤ joint.main.atoms → ShowsDisk (joined_telling joint (joint_told joint))
+shows_both joint head main same fits = record {
   whole = λ bytes is. (let both = both_told _ _ _ bytes is in rw both.bytes_are
       (whole_joint _ _ _ _ both.front both.back (rw same at head.whole both.front both.head_is)
       (main.whole both.back both.main_is) fits));
@@ -291,3 +292,72 @@ shows_joint joint head main same fits = record {
       (each_take (IsSized joint.main.size) joint.used both.now_main.now
       (main.sized both.now_main (told_of_marked _ _ both.main_is)))));
 }
+
+-- what tables that the main disk tells behind a head without atoms came from
+record TellsMain (used : ℕ) (head : Option (List ℕ)) (main : Option Told) (told : Told) : Type 0
+  where
+    front : List ℕ
+    whole : Told
+    front_is : head ≡ Some front
+    main_is : main ≡ Some whole
+    told_is : told ≡ told_of_used used whole
+
+tells_main : (used : ℕ) (head : Option (List ℕ)) (main : Option Told) (told : Told)
+    → told_by_main used head main ≡ Some told
+    → TellsMain used head main told
+tells_main used None main told is = absurd (cc)
+tells_main used (Some front) None told is = absurd (cc)
+tells_main used (Some front) (Some whole) told is =
+    record { front = front; whole = whole; front_is = refl; main_is = refl; told_is = cc }
+
+-- so do those that tell the main disk's
+shows_main : (joint : Joint) → ShowsDisk joint.head → ShowsDisk joint.main
+    → joint.head.size ≡ joint.main.size
+    → joint.used ≤ joint.main.atoms → joint.head.atoms ≡ 0
+    → ShowsDisk
+    (joined_telling joint (told_by_main joint.used joint.head.values joint.main.told))
+shows_main joint head main same fits none = record {
+  whole = (shows_both joint head main same fits).whole;
+  bytes = (shows_both joint head main same fits).bytes;
+  agrees = λ told is. (let tells = tells_main _ _ _ told is in
+      let no_bytes : length tells.front ≡ 0 =
+      head.whole tells.front tells.front_is ∙ ap (λ n. n * joint.head.size) none
+      ∙ (let e : 0 * joint.head.size ≡ 0 = grind arith in e) in
+      ap₂ (λ a b. both_values (joint.used * joint.main.size) a b)
+      (tells.front_is ∙ ap (λ bytes. Some bytes) (nil_from_length tells.front no_bytes))
+      (main.agrees tells.whole tells.main_is)
+      ∙ ap (λ bytes. Some bytes)
+      (sym (content_take _ joint.used _ tells.whole.now (main.even tells.whole tells.main_is) fits))
+      ∙ ap (λ one. Some (content one.now)) (sym tells.told_is));
+  even = λ told is. (let tells = tells_main _ _ _ told is in
+      rw tells.told_is
+      (even_take joint.used tells.whole.now
+      ∙ ap (λ xs. take joint.used xs) (main.even tells.whole tells.main_is)
+      ∙ take-replicate {X = ℕ} joint.used joint.main.atoms joint.main.size fits
+      ∙ ap (λ n. replicate n joint.main.size)
+      (let e : joint.used ≡ joint.head.atoms + joint.used = omega (arith, none) in e)));
+  held = λ told is. (let tells = tells_main _ _ _ told is in
+      rw tells.told_is
+      (each_take IsHeld joint.used tells.whole.now (main.held tells.whole tells.main_is)));
+  sized = λ told is. (let tells = tells_main _ _ _ told is in
+      rw tells.told_is
+      (each_take (IsSized joint.main.size) joint.used tells.whole.now
+      (main.sized tells.whole tells.main_is)));
+}
+
+shows_by : (joint : Joint) → ShowsDisk joint.head → ShowsDisk joint.main
+    → joint.head.size ≡ joint.main.size
+    → joint.used ≤ joint.main.atoms → (empty : Bool) → (joint.head.atoms == 0) ≡ empty
+    → ShowsDisk
+    (joined_telling joint (if empty then told_by_main joint.used joint.head.values joint.main.told
+    else joint_told joint))
+shows_by joint head main same fits true is =
+    shows_main joint head main same fits (eqb-true joint.head.atoms 0 is)
+shows_by joint head main same fits false is = shows_both joint head main same fits
+
+-- two joined disks show what a disk shows
+pub shows_joint : (joint : Joint) → ShowsDisk joint.head → ShowsDisk joint.main
+    → joint.head.size ≡ joint.main.size
+    → joint.used ≤ joint.main.atoms → ShowsDisk (joined_disk joint)
+shows_joint joint head main same fits =
+    shows_by joint head main same fits (joint.head.atoms == 0) refl

@@ -1,9 +1,11 @@
 // Two disks as one.
 
 ghost use Rattle.std.specs.Prelude.{◌≡◌, ℕ, ◌+◌, ◌*◌, ◌^◌, ◌<◌, ◌≤◌, List, ◌++◌, [], length, take};
-ghost use Rattle.std.specs.Prelude.{None, Some, false, true, is_some, if◌then◌else◌};
-ghost use Rattle.sector_disk.specs.JoinedDisks.Joined.{Follows, nothing, in_front, joint_of, joint_told};
-ghost use Rattle.sector_disk.specs.JoinedDisks.Joined.{joined_disk, begun_joint, used_atoms, with_marks};
+ghost use Rattle.std.specs.Prelude.{None, Some, false, true, is_some, option_map, if◌then◌else◌};
+ghost use Rattle.std.specs.Coded.{→_prop};
+ghost use Rattle.sector_disk.specs.JoinedDisks.Joined.{Follows, nothing, in_front, joint_of, joined_disk};
+ghost use Rattle.sector_disk.specs.JoinedDisks.Joined.{begun_joint, marked_joint, shown_told};
+ghost use Rattle.sector_disk.specs.JoinedDisks.Joined.{told_by_main, told_of_used, used_atoms, with_marks};
 ghost use Rattle.sector_disk.specs.JoinedDisks.JoinedLaws.{Follows-prop};
 ghost use Rattle.sector_disk.specs.Devices.{ReadCall, WriteCall, SyncCall, marked};
 ghost use Rattle.sector_disk.specs.Geometry.{IsAtom, IsInDisk};
@@ -19,12 +21,15 @@ use std::snapshot::Snapshot;
 /// of its own. The disks have atoms of one size. Of the main disk what would not lie below `2^63`
 /// bytes is left unused.
 ///
-/// It counts its calls, and marks a disk with the call's number, counted from 0, before it calls
-/// it; a call on both disks marks both alike, and the head is called first. So the tables of both
-/// disks stand in one order, also once they are apart again. It keeps no marks of its own, and once
-/// its count stands at `2^64 - 1` it tells its tables no more. After a call on the head that failed
-/// the main disk isn't called. Its faults are those of both, whose count stands still at
-/// `2^64 - 1`.
+/// It counts its calls. Behind a head that has atoms it marks a disk with the call's number, counted
+/// from 0, before it calls it; a call on both disks marks both alike, and the head is called first.
+/// So the tables of both disks stand in one order, also once they are apart again. It keeps no marks
+/// of its own then, and once its count stands at `2^64 - 1` it tells its tables no more. After a call
+/// on the head that failed the main disk isn't called. Its faults are those of both, whose count
+/// stands still at `2^64 - 1`.
+///
+/// Where there is no head, or one without atoms, each call and each mark is the main disk's own: it
+/// tells the main disk's tables and marks, of the atoms that are used.
 pub struct JoinedDisk<D: Disk> {
     head: Option<D>,
     main: D,
@@ -39,13 +44,13 @@ pub struct JoinedDisk<D: Disk> {
     ghost front: { (in_front D.device atom head).atoms ≡ base },
     ghost within: { used ≤ (D.device main).atoms },
     ghost fits: { (base + used) * atom < 2 ^ 63 },
-    ghost head_follows: { Follows calls (in_front D.device atom head_was.value).told
-        (in_front D.device atom head).told } by { Follows-prop calls
+    ghost head_follows: { 0 < base → Follows calls (in_front D.device atom head_was.value).told
+        (in_front D.device atom head).told } by { →_prop (Follows-prop calls
             (in_front D.device atom head_was.value).told
-            (in_front D.device atom head).told },
-    ghost main_follows: { Follows calls (D.device main_was.value).told
-        (D.device main).told } by { Follows-prop calls (D.device main_was.value).told
-            (D.device main).told },
+            (in_front D.device atom head).told) },
+    ghost main_follows: { 0 < base → Follows calls (D.device main_was.value).told
+        (D.device main).told } by { →_prop (Follows-prop calls (D.device main_was.value).told
+            (D.device main).told) },
 }
 
 // By hand, so that a value that is dropped in place is one call to the prover.
@@ -76,12 +81,9 @@ impl<D: Disk> JoinedDisk<D> {
         ensures joint { joint_in result
             ≡ begun_joint (nothing (D.device main).size) (D.device main) }
         ensures head { has_head result ≡ false }
-        ensures tells { (told : Told) → with_marks (D.device main).told ≡ Some told →
-            (⟦<JoinedDisk<D> as Disk>⟧.device result).told ≡ Some (record {
-              now = take (used_atoms (D.device main).size 0 (D.device main).atoms) told.now;
-              past = [];
-              mark = None;
-            }) }
+        ensures tells { (⟦<JoinedDisk<D> as Disk>⟧.device result).told ≡ option_map
+            (told_of_used (used_atoms (D.device main).size 0 (D.device main).atoms))
+            (D.device main).told }
     {
         JoinedDisk::of(None, main, 0)
     }
@@ -91,7 +93,8 @@ impl<D: Disk> JoinedDisk<D> {
         requires { (D.device head).size ≡ (D.device main).size }
         ensures joint { joint_in result ≡ begun_joint (D.device head) (D.device main) }
         ensures head { has_head result ≡ true }
-        ensures tells { (front told : Told) → with_marks (D.device head).told ≡ Some front →
+        ensures tells { (front told : Told) → 0 < (D.device head).atoms →
+            with_marks (D.device head).told ≡ Some front →
             with_marks (D.device main).told ≡ Some told →
             (⟦<JoinedDisk<D> as Disk>⟧.device result).told ≡ Some (record {
               now = front.now ++ take (used_atoms (D.device main).size (D.device head).atoms
@@ -99,6 +102,10 @@ impl<D: Disk> JoinedDisk<D> {
               past = [];
               mark = None;
             }) }
+        ensures empty { (D.device head).atoms ≡ 0 →
+            (⟦<JoinedDisk<D> as Disk>⟧.device result).told ≡ told_by_main
+            (used_atoms (D.device main).size (D.device head).atoms (D.device main).atoms)
+            (D.device head).values (D.device main).told }
     {
         let base = head.atoms();
         JoinedDisk::of(Some(head), main, base)
@@ -174,16 +181,19 @@ impl<D: Disk> JoinedDisk<D> {
     }
 
     /// The head, where there is one, and the main disk. The tables that were told are those of both
-    /// in the order of the calls' numbers, with which both are marked.
+    /// in the order of the calls' numbers, with which both are marked; without a head, those of the
+    /// main disk.
     pub fn parts(self) -> (Option<D>, D)
         ensures head { result.0 ≡ self.head }
         ensures main { result.1 ≡ self.main }
         ensures has_head { is_some result.0 ≡ has_head self }
         ensures order { (⟦<JoinedDisk<D> as Disk>⟧.device self).told
-            ≡ joint_told (record (joint_in self) {
+            ≡ shown_told (record (joint_in self) {
               head = in_front D.device (D.device result.1).size result.0;
               main = D.device result.1;
             }) }
+        ensures alone { result.0 ≡ None → (⟦<JoinedDisk<D> as Disk>⟧.device self).told ≡ option_map
+            (told_of_used (⟦<JoinedDisk<D> as Disk>⟧.device self).atoms) (D.device result.1).told }
     {
         let JoinedDisk {
             head,
@@ -200,7 +210,7 @@ impl<D: Disk> JoinedDisk<D> {
 }
 
 impl<D: Disk> Disk for JoinedDisk<D> {
-    ghost use Rattle.sector_disk.specs.JoinedDisks.Counts.{Counts, has_head, joint_in, sizes_of};
+    ghost use Rattle.sector_disk.specs.JoinedDisks.Counts.{Counts, joint_in, sizes_of};
     ghost use Rattle.sector_disk.specs.JoinedDisks.Joined.{joint_of, joined_disk};
     ghost use Rattle.sector_disk.specs.JoinedDisks.JoinedCalls.{JointRead, JointWritten, JointSynced};
     ghost use Rattle.sector_disk.specs.JoinedDisks.JoinedLaws.{shows, shows_front, shows_joint, joint_geometry};
@@ -272,6 +282,9 @@ impl<D: Disk> Disk for JoinedDisk<D> {
     {
         let number = self.calls;
         self.calls = number.saturating_add(1);
+        if self.base == 0 {
+            return self.main.read(at, buf);
+        }
         let cut = bytes_in_front(self.base, self.atom, at, buf.len());
         let (front, back) = buf.split_at_mut(cut);
         read_both(
@@ -296,6 +309,9 @@ impl<D: Disk> Disk for JoinedDisk<D> {
     {
         let number = self.calls;
         self.calls = number.saturating_add(1);
+        if self.base == 0 {
+            return self.main.write(at, bytes);
+        }
         let cut = bytes_in_front(self.base, self.atom, at, bytes.len());
         let (front, back) = bytes.split_at(cut);
         write_both(
@@ -312,22 +328,28 @@ impl<D: Disk> Disk for JoinedDisk<D> {
     fn sync(&mut self) -> Result<(), Failed>
         ensures call { SyncCall (joined_disk (joint_in self.old))
             (joined_disk (joint_in self.new)) result }
-        ensures each { JointSynced (has_head self.old) (joint_in self.old) (joint_in self.new)
-            result }
+        ensures each { JointSynced (joint_in self.old) (joint_in self.new) result }
         ensures counts { Counts (joint_in self.old) (joint_in self.new) }
         ensures sizes { sizes_of self.new ≡ sizes_of self.old }
     {
         let number = self.calls;
         self.calls = number.saturating_add(1);
+        if self.base == 0 {
+            return self.main.sync();
+        }
         sync_both(&mut self.head, &mut self.main, number)
     }
 
-    fn mark(&mut self, _number: u64)
+    fn mark(&mut self, number: u64)
         ensures marked { joined_disk (joint_in self.new)
-            ≡ marked (joined_disk (joint_in self.old)) _number }
-        ensures same { joint_in self.new ≡ joint_in self.old }
+            ≡ marked (joined_disk (joint_in self.old)) number }
+        ensures joint { joint_in self.new ≡ marked_joint (joint_in self.old) number }
         ensures sizes { sizes_of self.new ≡ sizes_of self.old }
-    {}
+    {
+        if self.base == 0 {
+            self.main.mark(number);
+        }
+    }
 
     fn faults(&self) -> u64 {
         let of_head = match &self.head {

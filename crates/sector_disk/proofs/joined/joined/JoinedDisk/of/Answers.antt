@@ -27,8 +27,8 @@ invariant_of-result g c =
             | then-atoms-rest w ↦ omega (arith, w.used-is, w.if-atoms-rest.true)
             | else-atoms-rest w ↦ omega (arith, w.used-is)
           ]);
-      head_follows =
+      head_follows = λ _.
           follows_start _ _
           (ap (λ head. (in_front device c.atom-atom.result head).told) c.of-head_was.ensures);
-      main_follows = follows_start _ _ (ap (λ main. (device main).told) c.of-main_was.ensures);
+      main_follows = λ _. follows_start _ _ (ap (λ main. (device main).told) c.of-main_was.ensures);
     }
