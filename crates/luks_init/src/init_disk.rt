@@ -9,9 +9,10 @@
 // what it holds, what it held stands for the same content under the same passphrase as what it
 // holds at each moment from the first sync on: each image that a stop leaves does, as long as no
 // torn copy of a header is valid and none stands in front of the second one. Else it says why no
-// conversion is begun, with the disk; and unless a device call failed nothing was written. None is
-// begun by which keyslots of other passphrases would go unasked, or of a volume of which bytes lie
-// behind the last whole atom of its disk.
+// conversion is begun, with the disk; and unless a device call failed nothing was written. By the
+// header with which one is begun nothing is lost: at most one keyslot holds the volume's key, unless
+// they may go, and no bytes that may be sectors of the volume lie behind the last whole atom of its
+// disk.
 
 mod beginning;
 mod changes;

@@ -1,6 +1,6 @@
 -- Segments: how long they are, which of them hold the volume, and how far they reach.
-use Rattle.std.specs.Prelude.{ℕ, ◌+◌, ◌-◌, ◌/◌, ◌==◌, ◌&&◌, ◌||◌, nat_lt, not, Bool, true, false}
-use Rattle.std.specs.Prelude.{List, codes, length, Option, Some, None, if◌then◌else◌}
+use Rattle.std.specs.Prelude.{ℕ, ◌+◌, ◌-◌, ◌/◌, ◌==◌, ◌&&◌, ◌||◌, nat_le, nat_lt, not, Bool, true}
+use Rattle.std.specs.Prelude.{false, List, codes, length, Option, Some, None, if◌then◌else◌}
 use Rattle.std.specs.List.{list_any, sum_by}
 use Rattle.std.specs.Str.{bytes_eq}
 use Rattle.luks_json.specs.Configs.{profile, mandatory}
@@ -28,14 +28,21 @@ abbrev pub is_dynamic : SegmentSize → Bool
 is_dynamic Dynamic = true
 is_dynamic (Sized n) = false
 
--- Whether a volume goes to the main disk's end: a segment has no size of its own. What lies there
--- behind the last whole atom belongs to it then too.
+-- Whether a volume goes to the main disk's end: a segment has no size of its own. Bytes that lie
+-- there behind the last whole atom may then be sectors of it too.
 abbrev pub goes_to_end : List (ℕ × Segment) → Bool
 goes_to_end segments = list_any (λ s. is_dynamic s.1.size) segments
 
--- whether bytes of a volume lie behind the last whole atom of a main disk that has so many there
+-- the bytes of the smallest sector of LUKS2 (On-Disk Format 1.1, section 3): fewer hold no sector
+-- of any volume
+abbrev pub smallest_sector : ℕ
+smallest_sector = 512
+
+-- Whether bytes that may be sectors of a volume lie behind the last whole atom of a main disk that
+-- has so many there. The volume goes to the disk's end, and they could hold a sector of it, under
+-- the segment that it has or under another one.
 abbrev pub has_tail : List (ℕ × Segment) → ℕ → Bool
-has_tail segments tail = goes_to_end segments && nat_lt 0 tail
+has_tail segments tail = goes_to_end segments && nat_le smallest_sector tail
 
 -- the bytes of a segment: a dynamic one goes to the last whole atom of the disk
 abbrev pub bytes_by : ℕ → ℕ → SegmentSize → ℕ

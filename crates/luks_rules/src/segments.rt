@@ -11,6 +11,9 @@ use base_terms::Sizes;
 use json_members::{Listed, Text};
 use luks_json::{Config, PROFILE, Parts, Segment, SegmentSize};
 
+/// The bytes of the smallest sector that a segment may have.
+pub(crate) const SMALLEST_SECTOR: u64 = 512;
+
 /// Whether a conversion is under way: the profile's string is mandatory.
 #[tactic(auto, unfolding(crate::specs::Segments::in_progress))]
 pub(crate) fn is_in_progress(config: &Config) -> bool

@@ -9,7 +9,7 @@ ghost use Rattle.luks_rules.specs.Shapes.{progress_of};
 use crate::fault::CheckError;
 use crate::idle::{Idle, find_idle};
 use crate::rules::judge;
-use crate::segments::any_goes_to_end;
+use crate::segments::{SMALLEST_SECTOR, any_goes_to_end};
 use crate::shape::Progress;
 use base_terms::Sizes;
 use luks_json::{Digest, Meta};
@@ -137,12 +137,12 @@ impl Valid {
         find_digest(self.checked.meta.parts().digests.as_slice(), number)
     }
 
-    /// Whether bytes of the volume lie behind the last whole atom of a main disk that has so many
-    /// there: it goes to the disk's end.
+    /// Whether bytes that may be sectors of the volume lie behind the last whole atom of a main disk
+    /// that has so many there: it goes to the disk's end, and they are at least one sector of 512.
     pub fn has_tail(&self, tail: u64) -> bool
         ensures { result ≡ has_tail self.now.meta.segments tail }
     {
-        any_goes_to_end(self.checked.meta.parts().segments.as_slice()) && 0 < tail
+        any_goes_to_end(self.checked.meta.parts().segments.as_slice()) && SMALLEST_SECTOR <= tail
     }
 
     /// The volume, where nothing of it is being converted.

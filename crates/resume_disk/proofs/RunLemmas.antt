@@ -24,7 +24,7 @@ use Rattle.volume_machine.specs.States.{IsIdle, State, open_at}
 use Rattle.volume_machine.specs.Works.{Work, converting, resting}
 use Rattle.volume_machine.specs.declared.keys.Keys.{Keys}
 use Rattle.volume_machine.specs.declared.open.Open.{Open}
-use Rattle.volume_opening.specs.Refusals.{AreOf}
+use Rattle.volume_opening.specs.Refusals.{AreOf, TellsAlone}
 use Rattle.volume_laws.specs.WorkerRuns.Conversions.{HasConverted, MayConvert}
 use Rattle.zone_events.specs.Heads.{header_on}
 use Rattle.zone_events.specs.Readings.{reading_of}
@@ -76,7 +76,9 @@ module _ {C D : Type 0} (sector : C → ℕ) (sealed opened : C → ℕ → List
     (order : (sizes : Sizes) → IsReadBy sizes volume → IsInOrder (reading_of sizes) volume
     → IsInOrder (reading_of sizes) after)
     (joint : Joint) (shows : joined_disk joint ≡ after.disk) (header : Option D) (back : D)
-    (are : AreOf device joint header back) (blocks : ℕ) (blocks_are : blocks ≡ after.map.blocks)
+    (are : AreOf device joint header back)
+    (tables : TellsAlone device (joined_disk joint) header back) (blocks : ℕ)
+    (blocks_are : blocks ≡ after.map.blocks)
   where
     abbrev last : Stored
     last = resumed.calls.led.last
@@ -110,6 +112,7 @@ module _ {C D : Type 0} (sector : C → ℕ) (sealed opened : C → ℕ → List
       joint = joint;
       shows = shows;
       are = are;
+      tables = subst (λ (d : Device). TellsAlone device d header back) shows tables;
     }
 
     -- it wasn't broken before

@@ -35,8 +35,8 @@ NoneFailedIn device disk (unfinished.Halted h) = NoneFailed device disk h.header
 
 -- ---- what is wanting
 -- Memory; or where a zone was open, a number for the header with the boundary moved over it, or room for
--- its text. Nothing is wanting where bytes of the volume lie behind the last whole atom of the disk, which
--- is refused too: its refusal says exactly when.
+-- its text. Nothing is wanting where bytes that may be sectors of the volume lie behind the last whole
+-- atom of the disk, which is refused too: its refusal says exactly when.
 abbrev pub WantsMemory : OpenCause → Type 0
 WantsMemory openings.Memory = Unit {0}
 WantsMemory _ = ⊥
@@ -81,7 +81,7 @@ Wants (unfinished.Halted h) = WantsAtWork h.end
 
 -- Where a disk tells its bytes, which stand for a content under a passphrase of 1 to 512 bytes, by their
 -- header a conversion is under way, and no device call failed, the conversion is at its end, unless
--- one of these was wanting, or bytes of the volume lie behind the last whole atom of the disk.
+-- one of these was wanting, or bytes that may be sectors of the volume lie behind the last whole atom.
 abbrev pub ConversionsEnd : {C D : Type 0} → (C → ℕ) → (C → ℕ → List ℕ → List ℕ)
     → (C → ℕ → List ℕ → List ℕ) → (D → Device) → Type 0
 ConversionsEnd {C} {D} sector sealed opened device =

@@ -35,8 +35,8 @@ pub record IsRefusedKeys (device : Device) (pass : List ℕ) (new : Device) (ref
   pub slots_read : KeepsBytes read new
   pub none : IsNoKeysFound stored.valid.meta stored.valid.sizes pass read new refusal
 
--- The keys were found, and bytes of the volume lie behind the last whole atom of the disk, which has
--- so many there; it was only read.
+-- The keys were found, and bytes that may be sectors of the volume lie behind the last whole atom of
+-- the disk, which has so many there; it was only read.
 pub record HasTailOn (device : Device) (pass : List ℕ) (bytes : ℕ) (new : Device) : Type 0 where
   pub unwritten : KeepsBytes device new
   pub stored : Stored

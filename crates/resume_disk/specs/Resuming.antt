@@ -20,7 +20,7 @@ use Rattle.volume_machine.specs.Sound.{IsSound}
 use Rattle.volume_machine.specs.States.{State}
 use Rattle.volume_machine.specs.declared.keys.Keys.{Keys}
 use Rattle.volume_opening.specs.Openings.{IsFound, alone}
-use Rattle.volume_opening.specs.Refusals.{AreOf}
+use Rattle.volume_opening.specs.Refusals.{AreOf, TellsAlone}
 use Rattle.volume_laws.specs.WorkerRuns.Conversions.{HasConverted, MayConvert}
 use Rattle.zone_events.specs.Heads.{header_on}
 use Rattle.zone_events.specs.Readings.{reading_of}
@@ -28,8 +28,8 @@ use Rattle.zone_events.specs.Works.{layout_for}
 
 -- ---- header and keys
 -- The header of a disk was read, by which a conversion is under way, and its keyslots gave the keys
--- of both sides to the passphrase; nothing was written meanwhile. No byte of the volume lies behind the
--- last whole atom of the disk.
+-- of both sides to the passphrase; nothing was written meanwhile. No bytes that may be sectors of the
+-- volume lie behind the last whole atom of the disk.
 pub record AreUnderKeys (device : Device) (pass : List ℕ) (keys : SideKeys) (read : Device) : Type 0
   where
     pub unwritten : KeepsBytes device read
@@ -87,7 +87,7 @@ pub record IsLedTo {C : Type 0} (sealed opened : C → ℕ → List ℕ → List
 
 -- A conversion on a disk was opened by a passphrase, and led on up to this end, which leaves this
 -- volume. The disks that it had are handed back: the one that was handed in, as the main one of two
--- that are joined.
+-- that are joined. Where it is handed back alone it tells the tables that were shown.
 pub record HasRun {C D : Type 0} (sector : C → ℕ) (sealed opened : C → ℕ → List ℕ → List ℕ)
     (device : D → Device) (disk : D) (pass : List ℕ) (end : WorkerEnd) (after : State (Keys C))
     (header : Option D) (back : D) : Type 0 where
@@ -97,6 +97,7 @@ pub record HasRun {C D : Type 0} (sector : C → ℕ) (sealed opened : C → ℕ
   pub joint : Joint
   pub shows : joined_disk joint ≡ after.disk
   pub are : AreOf device joint header back
+  pub tables : TellsAlone device after.disk header back
 
 -- A conversion on a disk is at its end: the volume has so many blocks, all of which are new by a
 -- header that converts nothing.

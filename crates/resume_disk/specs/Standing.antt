@@ -40,8 +40,8 @@ CutsOpening causes.NotBuilt = ⊥
 CutsOpening (causes.SeqEnd left wanted) = Unit {0}
 CutsOpening (causes.JsonFull length limit) = Unit {0}
 
--- memory or a device call, also while the header was read, or the keyslots; or bytes of the volume lie
--- behind the last whole atom of its disk, as its refusal says exactly
+-- memory or a device call, also while the header was read, or the keyslots; or bytes that may be sectors
+-- of the volume lie behind the last whole atom of its disk, as its refusal says exactly
 abbrev pub IsCutBy : Refusal → Type 0
 IsCutBy (refusals.Header fault) = IsUnread fault
 IsCutBy refusals.Idle = ⊥

@@ -18,8 +18,8 @@ pub enum Refusal {
     /// No keyslot gave the key of this side's segment: of the old one, which is tried first, or of
     /// the new one.
     Slots(Side, SlotFault),
-    /// The volume goes to the end of the disk, and so many bytes of it lie there behind the last
-    /// whole atom, which the conversion wouldn't reach.
+    /// The volume goes to the end of the disk, and so many bytes that may be sectors of it lie there
+    /// behind the last whole atom, which the conversion wouldn't reach.
     Tail(u64),
     /// The header and the keys opened no volume: memory was wanted, or a device call failed; blocks
     /// are shifted, or the header with the boundary moved over the open zone can't be made; or the

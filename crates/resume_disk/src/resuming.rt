@@ -54,10 +54,10 @@ fn conclude<D: Disk>(
 ///
 /// # Errors
 ///
-/// Why the conversion isn't at its end, with the disk. It wasn't led on, as where bytes of the volume
-/// lie behind the disk's last whole atom: then nothing was written,
-/// unless a device call failed, or memory was wanted once all was written by which the volume is
-/// opened. Or its worker ended so: with `Clash`, `NoFit` or `Memory` the volume stays in use as far
+/// Why the conversion isn't at its end, with the disk. It wasn't led on, as where bytes that may be
+/// sectors of the volume lie behind the disk's last whole atom: then nothing was written, unless a
+/// device call failed, or memory was wanted once all was written by which the volume is opened. Or its
+/// worker ended so: with `Clash`, `NoFit` or `Memory` the volume stays in use as far
 /// as it is converted by its header, and the call may be made again; with `Device` a device call
 /// failed, and the disk is as a stop may leave it.
 pub fn resume_conversion<R: Threads + Sync, D: Disk, G: Gate>(

@@ -98,7 +98,8 @@ pub fn find_side_keys<D: Disk>(
 /// # Errors
 ///
 /// No header was read, nothing is being converted, the passphrase doesn't have 1 to 512 bytes, no
-/// keyslot gave the key of a side, or bytes of the volume lie behind the disk's last whole atom.
+/// keyslot gave the key of a side, or bytes that may be sectors of the volume lie behind the disk's
+/// last whole atom.
 pub(crate) fn unlock_sides<D: Disk, G: Gate>(
     alloc: Global,
     disk: D,

@@ -6,12 +6,10 @@ use Rattle.base_terms.specs.declared.disk_sizes.Sizes.{Sizes}
 use Rattle.header_report.proofs.ExamineLemmas.{whole_front}
 use Rattle.header_report.specs.Examinations.{sizes_alone}
 use Rattle.luks_init.proofs.DiskInit.ThroughoutLemmas.{throughout}
-use Rattle.luks_init.specs.DiskInit.Answers.{IsBegunUnder, IsUnmadeUnder, IsUnopenedUnder, IsUnstartedBy}
-use Rattle.luks_init.specs.DiskInit.Calls.{IsBegunOf, IsUnbegunOf, IsUnmadeOf, IsUnopenedOf}
-use Rattle.luks_init.specs.DiskInit.Unlocking.{IsLockedBy, IsNotLinear, IsUnlockedOn, WouldLoseOn}
-use Rattle.luks_init.specs.DiskInit.Unlocking.{is_linear}
-use Rattle.luks_init.specs.DiskInit.Slips.{LosesNothing, WouldLose}
-use Rattle.luks_init.specs.declared.init_disk.making.MakeFault.{MakeFault}
+use Rattle.luks_init.specs.DiskInit.Answers.{IsBegunUnder, IsUnopenedUnder, IsUnreadyUnder}
+use Rattle.luks_init.specs.DiskInit.Answers.{IsUnstartedBy}
+use Rattle.luks_init.specs.DiskInit.Calls.{IsBegunOf, IsUnbegunOf, IsUnopenedOf, IsUnreadyOf}
+use Rattle.luks_init.specs.DiskInit.Unlocking.{IsLockedBy, IsNotLinear, IsUnlockedOn, is_linear}
 use Rattle.luks_init.specs.declared.init_disk.refusal.Refusal.{Refusal}
 use Rattle.luks_init.specs.declared.init_disk.refusal.Refusal.TheVariants as refusals
 use Rattle.luks_init.specs.declared.wish.Wish.{Wish}
@@ -50,91 +48,43 @@ tested_behind device stored found is (openings.Slots fault) = not_linear device 
 tested_behind device stored found is (openings.Opening cause) = not_linear device stored found is
 
 -- ---- the header and the key
-pub unlocked_on : (device read read' : Device) (w : Wish) (pass : List ℕ) (stored : Stored)
+pub unlocked_on : (device read read' : Device) (pass : List ℕ) (stored : Stored)
     (key : Option (List ℕ)) → KeepsBytes device read → IsFound device stored
     → is_linear stored ≡ false → KeepsBytes read read'
     → IsKeyFound stored.valid.meta stored.valid.sizes pass read.values key
-    → LosesNothing w stored.valid.meta stored.valid.sizes read'.tail
-    → IsUnlockedOn device w pass key read'
-unlocked_on device read read' w pass stored key header_read found is slots_read key_found safe =
-    record {
-      unwritten = keeps_on device read read' header_read slots_read;
-      stored = stored;
-      encrypted = is;
-      under = under_key device read stored pass key header_read found key_found;
-      safe = subst (λ n. LosesNothing w stored.valid.meta stored.valid.sizes n)
-          (slots_read.tail ∙ header_read.tail) safe;
-    }
+    → IsUnlockedOn device pass key read'
+unlocked_on device read read' pass stored key header_read found is slots_read key_found = record {
+  unwritten = keeps_on device read read' header_read slots_read;
+  stored = stored;
+  encrypted = is;
+  under = under_key device read stored pass key header_read found key_found;
+}
 
--- something would be lost
-would_lose : (device read read' : Device) (w : Wish) (pass : List ℕ) (stored : Stored)
-    (key : Option (List ℕ)) → KeepsBytes device read → IsFound device stored
-    → is_linear stored ≡ false → KeepsBytes read read'
-    → IsKeyFound stored.valid.meta stored.valid.sizes pass read.values key → (refusal : Refusal)
-    → WouldLose w stored.valid.meta stored.valid.sizes read'.tail refusal
-    → WouldLoseOn device w pass read' refusal
-would_lose device read read' w pass stored key header_read found is slots_read key_found refusal
-    loses = record {
-      unwritten = keeps_on device read read' header_read slots_read;
-      stored = stored;
-      encrypted = is;
-      key = key;
-      under = under_key device read stored pass key header_read found key_found;
-      loses = subst (λ n. WouldLose w stored.valid.meta stored.valid.sizes n refusal)
-          (slots_read.tail ∙ header_read.tail) loses;
-    }
-
-pub loses_by : {D : Type 0} (device : D → Device) (disk back : D) (w : Wish) (pass : List ℕ)
-    (stored : Stored) (key : Option (List ℕ)) (read : Device) → KeepsBytes (device disk) read
-    → IsFound (device disk) stored → is_linear stored ≡ false → KeepsBytes read (device back)
-    → IsKeyFound stored.valid.meta stored.valid.sizes pass read.values key → (refusal : Refusal)
-    → WouldLose w stored.valid.meta stored.valid.sizes (device back).tail refusal
-    → IsLockedBy device disk w pass refusal back
-loses_by device disk back w pass stored key read one found is two key_found
-    (refusals.Unopened refusal) loses = absurd loses
-loses_by device disk back w pass stored key read one found is two key_found refusals.Linear loses =
-    absurd loses
-loses_by device disk back w pass stored key read one found is two key_found refusals.Memory loses =
-    would_lose (device disk) read (device back) w pass stored key one found is two key_found
-    refusals.Memory loses
-loses_by device disk back w pass stored key read one found is two key_found
-    (refusals.Keyslots list) loses =
-    would_lose (device disk) read (device back) w pass stored key one found is two key_found
-    (refusals.Keyslots list) loses
-loses_by device disk back w pass stored key read one found is two key_found (refusals.Tail bytes)
-    loses =
-    would_lose (device disk) read (device back) w pass stored key one found is two key_found
-    (refusals.Tail bytes) loses
-loses_by device disk back w pass stored key read one found is two key_found (refusals.Unmade fault)
-    loses = absurd loses
-loses_by device disk back w pass stored key read one found is two key_found refusals.Writing loses =
-    absurd loses
-
-pub locked_by : {D : Type 0} (device : D → Device) (disk back : D) (w : Wish) (pass : List ℕ)
+pub locked_by : {D : Type 0} (device : D → Device) (disk back : D) (pass : List ℕ)
     (refusal : Unopened) (stored : Stored) (read : Device) → IsFound (device disk) stored
     → is_linear stored ≡ false → KeepsBytes (device disk) read → KeepsBytes read (device back)
     → IsNoKeyFound stored.valid.meta stored.valid.sizes pass read (device back) refusal
-    → IsLockedBy device disk w pass (refusals.Unopened refusal) back
-locked_by device disk back w pass (openings.Header fault) stored read found is one two none =
+    → IsLockedBy device disk pass (refusals.Unopened refusal) back
+locked_by device disk back pass (openings.Header fault) stored read found is one two none =
     absurd none
-locked_by device disk back w pass (openings.Opening cause) stored read found is one two none =
+locked_by device disk back pass (openings.Opening cause) stored read found is one two none =
     absurd none
-locked_by device disk back w pass openings.InProgress stored read found is one two none = (
+locked_by device disk back pass openings.InProgress stored read found is one two none = (
   refused_key device disk back pass openings.InProgress stored read found one two none,
   tested_behind (device disk) stored found is openings.InProgress,
 )
-locked_by device disk back w pass (openings.Passphrase count) stored read found is one two none = (
+locked_by device disk back pass (openings.Passphrase count) stored read found is one two none = (
   refused_key device disk back pass (openings.Passphrase count) stored read found one two none,
   tested_behind (device disk) stored found is (openings.Passphrase count),
 )
-locked_by device disk back w pass (openings.Slots fault) stored read found is one two none = (
+locked_by device disk back pass (openings.Slots fault) stored read found is one two none = (
   refused_key device disk back pass (openings.Slots fault) stored read found one two none,
   tested_behind (device disk) stored found is (openings.Slots fault),
 )
 
 -- no header and no key, as they are answered
 pub locked_so : {D : Type 0} (device : D → Device) (disk back : D) (w : Wish)
-    (pass seed : List ℕ) (refusal : Refusal) → IsLockedBy device disk w pass refusal back
+    (pass seed : List ℕ) (refusal : Refusal) → IsLockedBy device disk pass refusal back
     → IsUnstartedBy device disk w pass seed refusal back
 locked_so device disk back w pass seed (refusals.Unopened (openings.Opening cause)) is = absurd is
 locked_so device disk back w pass seed (refusals.Unopened (openings.Header fault)) is = is
@@ -142,15 +92,15 @@ locked_so device disk back w pass seed (refusals.Unopened openings.InProgress) i
 locked_so device disk back w pass seed (refusals.Unopened (openings.Passphrase count)) is = is
 locked_so device disk back w pass seed (refusals.Unopened (openings.Slots fault)) is = is
 locked_so device disk back w pass seed refusals.Linear is = is
-locked_so device disk back w pass seed refusals.Memory is = is
-locked_so device disk back w pass seed (refusals.Keyslots list) is = is
-locked_so device disk back w pass seed (refusals.Tail bytes) is = is
+locked_so device disk back w pass seed refusals.Memory is = absurd is
+locked_so device disk back w pass seed (refusals.Keyslots list) is = absurd is
+locked_so device disk back w pass seed (refusals.Tail bytes) is = absurd is
 locked_so device disk back w pass seed (refusals.Unmade fault) is = absurd is
 locked_so device disk back w pass seed refusals.Writing is = absurd is
 
 -- ---- behind them
 module _ (device read : Device) (w : Wish) (pass seed : List ℕ) (key : Option (List ℕ))
-    (unlocked : IsUnlockedOn device w pass key read)
+    (unlocked : IsUnlockedOn device pass key read)
     (long : (all : List ℕ) → device.values ≡ Some all
     → length all ≡ device.atoms * device.size)
     (agrees : (told : Told) → device.told ≡ Some told → device.values ≡ Some (content told.now))
@@ -175,14 +125,15 @@ module _ (device read : Device) (w : Wish) (pass seed : List ℕ) (key : Option 
               told;
         }
 
-    pub unmade_under : (back : Device) (fault : MakeFault)
-        → IsUnmadeOf (sizes_alone read) w pass seed read back fault
-        → IsUnmadeUnder device w pass seed fault back
-    unmade_under back fault is = record {
+    pub unready_under : (back : Device) (refusal : Refusal)
+        → IsUnreadyOf (sizes_alone read) key w pass seed read back refusal
+        → IsUnreadyUnder device w pass seed back refusal
+    unready_under back refusal is = record {
       key = key;
       read = read;
       unlocked = unlocked;
-      unmade = subst (λ (z : Sizes). IsUnmadeOf z w pass seed read back fault) sizes_same is;
+      unready = subst (λ (z : Sizes). IsUnreadyOf z key w pass seed read back refusal) sizes_same
+          is;
     }
 
     -- a disk that tells its bytes has this header and this key
@@ -215,7 +166,7 @@ module _ (device read : Device) (w : Wish) (pass seed : List ℕ) (key : Option 
 -- why none was begun, by what is handed back
 module _ {D : Type 0} (device_of : D → Device) (first read back : D) (w : Wish)
     (pass seed : List ℕ) (key : Option (List ℕ))
-    (unlocked : IsUnlockedOn (device_of first) w pass key (device_of read))
+    (unlocked : IsUnlockedOn (device_of first) pass key (device_of read))
     (long : (all : List ℕ) → (device_of first).values ≡ Some all
     → length all ≡ (device_of first).atoms * (device_of first).size)
     (agrees : (told : Told) → (device_of first).told ≡ Some told
@@ -235,12 +186,18 @@ module _ {D : Type 0} (device_of : D → Device) (first read back : D) (w : Wish
   unstarted_by (refusals.Unopened (openings.Passphrase count)) is = absurd is
   unstarted_by (refusals.Unopened (openings.Slots fault)) is = absurd is
   unstarted_by refusals.Linear is = absurd is
-  unstarted_by refusals.Memory is = absurd is
-  unstarted_by (refusals.Keyslots list) is = absurd is
-  unstarted_by (refusals.Tail bytes) is = absurd is
+  unstarted_by refusals.Memory is =
+      unready_under (device_of first) (device_of read) w pass seed key unlocked long agrees
+      (device_of back) refusals.Memory is
+  unstarted_by (refusals.Keyslots list) is =
+      unready_under (device_of first) (device_of read) w pass seed key unlocked long agrees
+      (device_of back) (refusals.Keyslots list) is
+  unstarted_by (refusals.Tail bytes) is =
+      unready_under (device_of first) (device_of read) w pass seed key unlocked long agrees
+      (device_of back) (refusals.Tail bytes) is
   unstarted_by (refusals.Unmade fault) is =
-      unmade_under (device_of first) (device_of read) w pass seed key unlocked long
-      agrees (device_of back) fault is
+      unready_under (device_of first) (device_of read) w pass seed key unlocked long agrees
+      (device_of back) (refusals.Unmade fault) is
   unstarted_by refusals.Writing is =
       begun_under (device_of first) (device_of read) w pass seed key unlocked long
       agrees (device_of back) failed_call is

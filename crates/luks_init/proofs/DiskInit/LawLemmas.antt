@@ -193,19 +193,20 @@ module _ (laws : Laws) (sizes : Sizes) (header next : Stored) (w : Wish) (pass s
 pub slots_keep : Laws → DiskOpeningsMend → SlotsKeepContents
 slots_keep laws mend sizes key w pass seed old header repair slot between new result first disk wish
     shows ready run shows_between fits writes is =
-    let mended = mend sizes header ready.placement repair old between shows ready.found
+    let checked = ready.checked in
+    let mended = mend sizes header checked.placement repair old between shows checked.found
     shows_between run first is in
     let loaded = ready.made.is.loaded in
     record {
       tables = tells laws sizes header loaded.0 w pass seed slot first between disk wish
-          shows_between mended ready.placement repair old ready.found ready.made
+          shows_between mended checked.placement repair old checked.found ready.made
           loaded.1 fits new result writes;
       done = λ same. ended laws sizes header loaded.0 w pass seed slot first between disk wish
-          shows_between mended ready.placement repair old ready.found ready.made
+          shows_between mended checked.placement repair old checked.found ready.made
           loaded.1 fits new
           (subst (λ (r : Result (Unit {0}) Failed). WritesSlot slot between new r) same writes);
       kept = λ same. keeps_next laws sizes header loaded.0 w pass seed slot first between disk wish
-          shows_between mended ready.placement repair old ready.found ready.made
+          shows_between mended checked.placement repair old checked.found ready.made
           loaded.1 fits new
           (subst (λ (r : Result (Unit {0}) Failed). WritesSlot slot between new r) same writes);
     }

@@ -9,10 +9,11 @@ use Rattle.base_terms.specs.declared.failed.Failed.{Failed}
 use Rattle.base_terms.specs.declared.disk_sizes.Sizes.{Sizes}
 use Rattle.luks_init.proofs.DiskInit.FitLemmas.{fits_slot}
 use Rattle.header_report.specs.Examinations.{sizes_alone}
-use Rattle.luks_init.specs.DiskInit.Calls.{IsBegunOf, IsOnlyRead, IsReady, IsUnbegunOf, IsUnrepaired}
+use Rattle.luks_init.specs.DiskInit.Calls.{IsBegunOf, IsChecked, IsOnlyRead, IsReady, IsUnbegunOf}
+use Rattle.luks_init.specs.DiskInit.Calls.{IsUnreadyOf, IsUnrepaired}
 use Rattle.luks_init.specs.DiskInit.Laws.{SlotsKeepContents}
-use Rattle.luks_init.specs.DiskInit.Makings.{IsMade, IsUnmade}
-use Rattle.luks_init.specs.declared.init_disk.making.MakeFault.{MakeFault}
+use Rattle.luks_init.specs.DiskInit.Makings.{IsMade, IsUnready}
+use Rattle.luks_init.specs.DiskInit.Slips.{LosesNothing}
 use Rattle.luks_init.specs.declared.init_disk.refusal.Refusal.{Refusal}
 use Rattle.luks_init.specs.declared.init_disk.refusal.Refusal.TheVariants as refusals
 use Rattle.sector_disk.specs.JoinedDisks.Counts.{HasSizes}
@@ -31,7 +32,7 @@ use Rattle.luks_store.specs.Loads.{stored_in}
 use Rattle.luks_store.specs.Used.{AreCopies}
 use Rattle.luks_store.specs.declared.copies.Copies.{Copies}
 use Rattle.luks_store.specs.declared.loaded.Stored.{Stored}
-use Rattle.reenc_meta.specs.Placements.{IsPlacementOf, PlacedBy, all_atoms}
+use Rattle.reenc_meta.specs.Placements.{PlacedBy, all_atoms}
 use Rattle.reenc_meta.specs.declared.placement.Placement.{Placement}
 use Rattle.reenc_recovery.proofs.OpenCauseLemmas.{cause_since, repair_rose, rose_since}
 use Rattle.reenc_recovery.proofs.OpenLemmas.{refused_later, shows_sizes}
@@ -62,18 +63,16 @@ pub err_of : {T E : Type 0} (P : E → Type 0) (r : Result T E) (x : E) → r �
 err_of {T} {E} P r x is has = subst (λ (v : Result T E). IfErr v P) is has
 
 -- ---- before anything is written
-pub ready_of : {C : Type 0} (sector : C → ℕ) (sealed opened : C → ℕ → List ℕ → List ℕ)
+pub checked_of : {C : Type 0} (sector : C → ℕ) (sealed opened : C → ℕ → List ℕ → List ℕ)
     (sizes later : Sizes) (key : Option (List ℕ)) (header : Stored) (p : Placement) (keys : Keys C)
-    (repair : Option Repair) (old synced : Device) (w : Wish) (pass seed : List ℕ)
-    (slot : SlotCommit) → later ≡ sizes → SyncCall old synced succeeded
-    → HasPassed sector sealed opened later key header p keys → IsRepairFor header.copies repair
-    → IfSome repair (FitsDisks later)
+    (repair : Option Repair) (old synced : Device) → later ≡ sizes
+    → SyncCall old synced succeeded → HasPassed sector sealed opened later key header p keys
+    → IsRepairFor header.copies repair → IfSome repair (FitsDisks later)
     → ((all : List ℕ) → synced.values ≡ Some all
     → stored_in later (front_of later all) ≡ Ok header)
-    → IsMade header w pass seed slot
-    → IsReady sizes key w pass seed old header repair slot
-ready_of sector sealed opened sizes later key header p keys repair old synced w pass seed slot same
-    sync passed_later asked fits held made =
+    → IsChecked sizes key old header repair
+checked_of sector sealed opened sizes later key header p keys repair old synced same sync
+    passed_later asked fits held =
     let passed = subst (λ (z : Sizes). HasPassed sector sealed opened z key header p keys) same
     passed_later in
     record {
@@ -93,8 +92,18 @@ ready_of sector sealed opened sizes later key header p keys repair old synced w 
       };
       key_is = passed.opening.new_key;
       fits = subst (λ (z : Sizes). IfSome repair (FitsDisks z)) same fits;
-      made = made;
     }
+
+pub ready_of : (sizes : Sizes) (key : Option (List ℕ)) (header : Stored) (repair : Option Repair)
+    (old : Device) (w : Wish) (pass seed : List ℕ) (slot : SlotCommit) (tail : ℕ)
+    → IsChecked sizes key old header repair → tail ≡ old.tail
+    → LosesNothing w header.valid.meta header.valid.sizes tail → IsMade header w pass seed slot
+    → IsReady sizes key w pass seed old header repair slot
+ready_of sizes key header repair old w pass seed slot tail checked same safe made = record {
+  checked = checked;
+  safe = subst (λ (n : ℕ). LosesNothing w header.valid.meta header.valid.sizes n) same safe;
+  made = made;
+}
 
 begun_by : (copies : Copies) (repair : Option Repair) → AreCopies copies
     → IsRepairFor copies repair → IfSome repair (λ r. repair_stage_in r ≡ Broken)
@@ -209,27 +218,36 @@ module _ (sizes : Sizes) (key : Option (List ℕ)) (w : Wish) (pass seed : List 
         };
       })
 
-  -- by what can't be made
-  pub unmade : (later : Sizes) → later ≡ sizes → (header : Stored) (p : Placement)
-      (fault : MakeFault) → header.valid.sizes ≡ later → IsPlacementOf header.valid.meta later p
-      → ((all : List ℕ) → synced.values ≡ Some all
-      → stored_in later (front_of later all) ≡ Ok header)
-      → IsUnmade header w pass seed fault
-      → IsUnbegunOf sizes key w pass seed old read (refusals.Unmade fault)
-  unmade later still header p fault sizes_are placed held is = record {
-    read = only_read;
-    unmade = record {
-      header = header;
-      held = λ first told.
-          subst (λ (z : Sizes). stored_in z (front_of z first) ≡ Ok header) still
-          (held first (sync.values ∙ told));
-      unmade = is;
-      idle = λ same.
-          not_under_way (idle_of header.valid.meta later) later p pass placed
-          (subst (λ (z : Sizes). first_unready header.valid.meta z pass ≡ Some faults.InProgress)
-          sizes_are (subst (λ (f : MakeFault). IsUnmade header w pass seed f) same is));
-    };
-  }
+  -- by the header that passed all checks
+  module _ (header : Stored) (repair : Option Repair) (tail : ℕ) (tail_is : tail ≡ old.tail)
+      (checked : IsChecked sizes key old header repair) where
+    unready_of : (refusal : Refusal) → IsUnready header w pass seed tail refusal
+        → IsUnreadyOf sizes key w pass seed old read refusal
+    unready_of refusal is_later =
+        let is = subst (λ (n : ℕ). IsUnready header w pass seed n refusal) tail_is is_later in
+        record {
+          read = only_read;
+          header = header;
+          repair = repair;
+          checked = checked;
+          unready = is;
+          idle = λ same.
+              not_under_way (idle_of header.valid.meta sizes) sizes checked.placement pass
+              checked.found.placed
+              (subst (λ (z : Sizes). first_unready header.valid.meta z pass ≡ Some faults.InProgress)
+              checked.found.sizes_are
+              (subst (λ (r : Refusal). IsUnready header w pass seed old.tail r) same is).1);
+        }
+
+    pub unready : (refusal : Refusal) → IsUnready header w pass seed tail refusal
+        → IsUnbegunOf sizes key w pass seed old read refusal
+    unready (refusals.Unopened refusal) is = absurd is
+    unready refusals.Linear is = absurd is
+    unready refusals.Memory is = unready_of refusals.Memory is
+    unready (refusals.Keyslots list) is = unready_of (refusals.Keyslots list) is
+    unready (refusals.Tail bytes) is = unready_of (refusals.Tail bytes) is
+    unready (refusals.Unmade fault) is = unready_of (refusals.Unmade fault) is
+    unready refusals.Writing is = absurd is
 
 -- ---- all is ready
 module _ (sizes : Sizes) (key : Option (List ℕ)) (w : Wish) (pass seed : List ℕ)
@@ -244,11 +262,12 @@ module _ (sizes : Sizes) (key : Option (List ℕ)) (w : Wish) (pass seed : List 
   atoms_read = first.unwritten.atoms ∙ first.sync.atoms
 
   pub repair_begins : IfSome repair (λ r. repair_stage_in r ≡ Broken)
-  repair_begins = begun_by header.copies repair ready.found.stored.copies ready.found.asked
+  repair_begins = begun_by header.copies repair ready.checked.found.stored.copies
+      ready.checked.found.asked
 
   pub repair_fits : IfSome repair (RepairFits read)
   repair_fits =
-      fits_by sizes repair read ready.fits
+      fits_by sizes repair read ready.checked.fits
       (same_sizes sizes read old size_read atoms_read has)
       (subst (λ (n : ℕ). IsAtom n) (shows.atom ∙ sym size_read) shows.known)
 
@@ -271,8 +290,8 @@ module _ (sizes : Sizes) (key : Option (List ℕ)) (w : Wish) (pass seed : List 
     calls = subst (λ (r : Option Repair). DiskOpeningRun r old new failed_call) is
         (runs new failed_call run);
     by = refl;
-    tables = keep sizes header ready.placement repair old new failed_call shows ready.found
-        (runs new failed_call run) sized;
+    tables = keep sizes header ready.checked.placement repair old new failed_call shows
+        ready.checked.found (runs new failed_call run) sized;
   }
 
   pub unrepaired : DiskOpeningsKeepContents → (new : Device) (refusal : Refusal)
@@ -299,8 +318,8 @@ module _ (sizes : Sizes) (key : Option (List ℕ)) (w : Wish) (pass seed : List 
       (atoms : between.atoms ≡ read.atoms) where
     pub slot_fits : FitsSlot slot between
     slot_fits =
-        fits_slot header sizes w pass seed slot ready.made ready.found.sizes_are ready.found.sound
-        between
+        fits_slot header sizes w pass seed slot ready.made ready.checked.found.sizes_are
+        ready.checked.found.sound between
         (same_sizes sizes between old (size ∙ size_read) (atoms ∙ atoms_read) has)
 
     pub shows_between : ((told : Told) → between.told ≡ Some told
@@ -329,8 +348,8 @@ module _ (sizes : Sizes) (key : Option (List ℕ)) (w : Wish) (pass seed : List 
           between = between;
           opening = run;
           slot_calls = writes;
-          opened = keep sizes header ready.placement repair old between succeeded shows ready.found
-              run sized;
+          opened = keep sizes header ready.checked.placement repair old between succeeded shows
+              ready.checked.found run sized;
           tables = λ all is.
               (law sizes key w pass seed old header repair slot between new result all disk wish
               shows ready run shows_later slot_fits writes is).tables;

@@ -1,10 +1,10 @@
 -- What is checked and made before anything is written, and the calls that then begin a conversion.
-use Rattle.std.specs.Prelude.{ℕ, ◌≡◌, ◌⊎◌, List, Option, Some, Ok, Result, IfSome}
+use Rattle.std.specs.Prelude.{ℕ, ◌≡◌, ◌⊎◌, List, Option, Some, Result, IfSome}
 use Rattle.base_terms.specs.declared.failed.Failed.{Failed}
 use Rattle.base_terms.specs.declared.disk_sizes.Sizes.{Sizes}
-use Rattle.luks_init.specs.DiskInit.Makings.{IsMade, IsUnmade, draw_of}
+use Rattle.luks_init.specs.DiskInit.Makings.{IsMade, IsUnready, draw_of}
+use Rattle.luks_init.specs.DiskInit.Slips.{LosesNothing}
 use Rattle.luks_init.specs.DiskInit.Tables.{HasBegun, KeepsNext, TellsOn}
-use Rattle.luks_init.specs.declared.init_disk.making.MakeFault.{MakeFault}
 use Rattle.luks_init.specs.declared.init_disk.making.MakeFault.TheVariants as makes
 use Rattle.luks_init.specs.declared.init_disk.refusal.Refusal.{Refusal}
 use Rattle.luks_init.specs.declared.init_disk.refusal.Refusal.TheVariants as refusals
@@ -32,25 +32,21 @@ use Rattle.volume_opening.specs.declared.refusal.Refusal.TheVariants as openings
 -- ---- before anything is written
 -- The header passed all checks: it is the one that the disk holds, where the disk tells what it
 -- holds; nothing is being converted by it, the key is that of its segment's digest, and the repair
--- that it asks for lies on the disk. By this header the keyslot was made.
-pub record IsReady (sizes : Sizes) (key : Option (List ℕ)) (w : Wish) (pass seed : List ℕ)
-    (device : Device) (header : Stored) (repair : Option Repair) (slot : SlotCommit) : Type 0 where
+-- that it asks for lies on the disk.
+pub record IsChecked (sizes : Sizes) (key : Option (List ℕ)) (device : Device) (header : Stored)
+    (repair : Option Repair) : Type 0 where
   pub placement : Placement
   pub found : IsFoundOn sizes header placement repair device
   pub key_is : IsKeyOf header.valid.meta placement.new
       (used_by placement.new.encryption key)
   pub fits : IfSome repair (FitsDisks sizes)
-  pub made : IsMade header w pass seed slot
 
--- What can't be made, by the header that the disk holds, where the disk tells what it holds. It
--- passed all checks, so it is never that a conversion is under way.
-pub record IsUnmadeOn (sizes : Sizes) (w : Wish) (pass seed : List ℕ) (device : Device)
-    (fault : MakeFault) : Type 0 where
-  pub header : Stored
-  pub held : (first : List ℕ) → device.values ≡ Some first
-      → stored_in sizes (front_of sizes first) ≡ Ok header
-  pub unmade : IsUnmade header w pass seed fault
-  pub idle : fault ≡ makes.Unready InProgress → ⊥
+-- By this header nothing is lost, and the keyslot was made.
+pub record IsReady (sizes : Sizes) (key : Option (List ℕ)) (w : Wish) (pass seed : List ℕ)
+    (device : Device) (header : Stored) (repair : Option Repair) (slot : SlotCommit) : Type 0 where
+  pub checked : IsChecked sizes key device header repair
+  pub safe : LosesNothing w header.valid.meta header.valid.sizes device.tail
+  pub made : IsMade header w pass seed slot
 
 -- why the volume isn't opened by a header and a key that were read
 pub record IsRefusedAs (sizes : Sizes) (key : Option (List ℕ)) (old new : Device)
@@ -60,7 +56,7 @@ pub record IsRefusedAs (sizes : Sizes) (key : Option (List ℕ)) (old new : Devi
       → IsCauseIn sizes key (stored_in sizes (front_of sizes first)) cause
 
 -- ---- the calls
--- All checks passed and all was made; then came a sync, the reads, the calls of the header's repair,
+-- All checks passed, nothing is lost, and all was made; then came a sync, the reads, the calls of the header's repair,
 -- and those by which the keyslot and the next header are written, of which the last one was done or
 -- failed. Each image of each table that the disk told, from that of the first sync on, stands for
 -- what the disk's bytes stood for before, under the passphrase; and where all was done, what the
@@ -111,11 +107,16 @@ pub record IsUnopenedOf (sizes : Sizes) (key : Option (List ℕ)) (w : Wish) (pa
       ⊎ (IsOnlyRead sizes old new ⊎ IsUnrepaired sizes key w pass seed old new cause)
   pub why : IsRefusedAs sizes key old new cause
 
--- The disk was synced, and then only read; what is to be written can't be made.
-pub record IsUnmadeOf (sizes : Sizes) (w : Wish) (pass seed : List ℕ) (old new : Device)
-    (fault : MakeFault) : Type 0 where
+-- The disk was synced, and then only read. All checks passed; by that very header something would be
+-- lost, or what is to be written can't be made, but never since a conversion is under way.
+pub record IsUnreadyOf (sizes : Sizes) (key : Option (List ℕ)) (w : Wish) (pass seed : List ℕ)
+    (old new : Device) (refusal : Refusal) : Type 0 where
   pub read : IsOnlyRead sizes old new
-  pub unmade : IsUnmadeOn sizes w pass seed old fault
+  pub header : Stored
+  pub repair : Option Repair
+  pub checked : IsChecked sizes key old header repair
+  pub unready : IsUnready header w pass seed old.tail refusal
+  pub idle : refusal ≡ refusals.Unmade (makes.Unready InProgress) → ⊥
 
 -- Why no conversion is begun on a disk of these sizes by a key, and what that leaves.
 abbrev pub IsUnbegunOf : Sizes → Option (List ℕ) → Wish → List ℕ → List ℕ → Device → Device
@@ -124,10 +125,13 @@ IsUnbegunOf sizes key w pass seed old new (refusals.Unopened (openings.Opening c
     IsUnopenedOf sizes key w pass seed old new cause
 IsUnbegunOf sizes key w pass seed old new (refusals.Unopened refusal) = ⊥
 IsUnbegunOf sizes key w pass seed old new refusals.Linear = ⊥
-IsUnbegunOf sizes key w pass seed old new refusals.Memory = ⊥
-IsUnbegunOf sizes key w pass seed old new (refusals.Keyslots list) = ⊥
-IsUnbegunOf sizes key w pass seed old new (refusals.Tail bytes) = ⊥
+IsUnbegunOf sizes key w pass seed old new refusals.Memory =
+    IsUnreadyOf sizes key w pass seed old new refusals.Memory
+IsUnbegunOf sizes key w pass seed old new (refusals.Keyslots list) =
+    IsUnreadyOf sizes key w pass seed old new (refusals.Keyslots list)
+IsUnbegunOf sizes key w pass seed old new (refusals.Tail bytes) =
+    IsUnreadyOf sizes key w pass seed old new (refusals.Tail bytes)
 IsUnbegunOf sizes key w pass seed old new (refusals.Unmade fault) =
-    IsUnmadeOf sizes w pass seed old new fault
+    IsUnreadyOf sizes key w pass seed old new (refusals.Unmade fault)
 IsUnbegunOf sizes key w pass seed old new refusals.Writing =
     IsBegunOf sizes key w pass seed old new failed_call

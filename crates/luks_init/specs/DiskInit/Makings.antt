@@ -7,9 +7,12 @@ use Rattle.luks_store.specs.Copying.Held.{stage_in}
 use Rattle.luks_store.specs.Copying.Steps.{last_seqid}
 use Rattle.luks_store.specs.declared.header_copies.commit.Stage.TheVariants as stages
 use Rattle.luks_init.specs.Begins.{IsBegun}
+use Rattle.luks_init.specs.DiskInit.Slips.{LosesNothing, WouldLose}
 use Rattle.luks_init.specs.Faults.{IsUnbegun}
 use Rattle.luks_init.specs.declared.beginning.Begun.{Begun}
 use Rattle.luks_init.specs.declared.fault.InitFault.TheVariants.{Memory}
+use Rattle.luks_init.specs.declared.init_disk.refusal.Refusal.{Refusal}
+use Rattle.luks_init.specs.declared.init_disk.refusal.Refusal.TheVariants as refusals
 use Rattle.luks_init.specs.declared.wish.Wish.{Wish}
 use Rattle.luks_slots.specs.KeyMaking.Drawings.{AreDrawn, Draw, drawn_by, drawn_len}
 use Rattle.luks_store.specs.Commits.{CopiesFit, IsNext, IsNextStored, IsPrepared}
@@ -60,3 +63,11 @@ IsUnmade header w pass seed (makes.Unready fault) =
 IsUnmade header w pass seed (makes.SeqEnd number) =
     IsUncommitted header (makes.SeqEnd number)
     × ((begun : Begun) × Begins header w pass seed begun)
+
+-- Why nothing is made of a header whose disk has so many bytes behind its last whole atom, the first
+-- cause: something would be lost by the conversion; or nothing would, and it can't be made.
+abbrev pub IsUnready : Stored → Wish → List ℕ → List ℕ → ℕ → Refusal → Type 0
+IsUnready header w pass seed tail (refusals.Unmade fault) =
+    LosesNothing w header.valid.meta header.valid.sizes tail × IsUnmade header w pass seed fault
+IsUnready header w pass seed tail refusal =
+    WouldLose w header.valid.meta header.valid.sizes tail refusal

@@ -1,5 +1,5 @@
--- What an operator would lose by a conversion without knowing it: keyslots of other passphrases, and
--- bytes behind the last whole atom of the disk.
+-- What an operator would lose by a conversion without knowing it: keyslots where more than one holds
+-- the volume's key, and sectors behind the last whole atom of the disk.
 use Rattle.std.specs.Prelude.{ℕ, ◌≡◌, ◌⊎◌, ◌<◌, ◌≤◌, true, false, List, [], length}
 use Rattle.std.specs.Prelude.{Option, Some, None, option_and_then}
 use Rattle.base_terms.specs.declared.disk_sizes.Sizes.{Sizes}
@@ -28,19 +28,19 @@ holders_by m (Some d) = holders m d
 abbrev pub key_holders : Parts → Sizes → List (ℕ × SlotKind)
 key_holders m sizes = holders_by m (digest_by m (idle_of m sizes))
 
--- Keyslots of other passphrases may go, or there is none: besides the one that the passphrase opens no
--- other holds the volume's key.
+-- Keyslots may go, or at most one keyslot holds the volume's key. It is the one that the passphrase
+-- opened where that was tried by the same header.
 abbrev pub KeepsOthers : Wish → Parts → Sizes → Type 0
 KeepsOthers w m sizes = (w.drop_keyslots ≡ true) ⊎ (length (key_holders m sizes) ≤ 1)
 
--- Nothing is lost: no keyslot of another passphrase unasked; and no byte of the volume lies behind the
--- last whole atom of its disk, which has so many there.
+-- Nothing is lost: at most one keyslot holds the volume's key, unless they may go; and no bytes that
+-- may be sectors of the volume lie behind the last whole atom of its disk, which has so many there.
 pub record LosesNothing (w : Wish) (m : Parts) (sizes : Sizes) (tail : ℕ) : Type 0 where
   pub kept : KeepsOthers w m sizes
   pub whole : has_tail m.segments tail ≡ false
 
 -- The first that would be lost: the keyslots that hold the volume's key are told, or how many bytes
--- lie behind the last whole atom. Want of memory says nothing.
+-- that may be sectors of it lie behind the last whole atom. Want of memory says nothing.
 abbrev pub WouldLose : Wish → Parts → Sizes → ℕ → Refusal → Type 0
 WouldLose w m sizes tail (refusals.Unopened refusal) = ⊥
 WouldLose w m sizes tail refusals.Linear = ⊥

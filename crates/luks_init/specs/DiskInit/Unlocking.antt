@@ -5,8 +5,6 @@ use Rattle.std.specs.Prelude.{is_some}
 use Rattle.header_report.specs.Examinations.{sizes_alone}
 use Rattle.luks_init.specs.declared.init_disk.refusal.Refusal.{Refusal}
 use Rattle.luks_init.specs.declared.init_disk.refusal.Refusal.TheVariants as refusals
-use Rattle.luks_init.specs.DiskInit.Slips.{LosesNothing, WouldLose}
-use Rattle.luks_init.specs.declared.wish.Wish.{Wish}
 use Rattle.luks_rules.specs.Idles.{idle_of}
 use Rattle.luks_rules.specs.declared.idle.Idle.{Idle}
 use Rattle.luks_store.specs.Devices.{KeepsBytes}
@@ -27,25 +25,13 @@ abbrev pub is_linear : Stored → Bool
 is_linear stored = linear_by (idle_of stored.valid.meta stored.valid.sizes)
 
 -- The header was read, by which the volume is encrypted and nothing is being converted, and its
--- keyslots gave a key to the passphrase; nothing is lost by the conversion that is wished, and nothing
--- was written meanwhile.
-pub record IsUnlockedOn (device : Device) (w : Wish) (pass : List ℕ) (key : Option (List ℕ))
-    (read : Device) : Type 0 where
+-- keyslots gave a key to the passphrase; nothing was written meanwhile.
+pub record IsUnlockedOn (device : Device) (pass : List ℕ) (key : Option (List ℕ)) (read : Device) :
+    Type 0 where
   pub unwritten : KeepsBytes device read
   pub stored : Stored
   pub encrypted : is_linear stored ≡ false
   pub under : IsUnderKey device stored pass key
-  pub safe : LosesNothing w stored.valid.meta stored.valid.sizes device.tail
-
--- The same header and key, and something would be lost; the disk was only read.
-pub record WouldLoseOn (device : Device) (w : Wish) (pass : List ℕ) (read : Device)
-    (refusal : Refusal) : Type 0 where
-  pub unwritten : KeepsBytes device read
-  pub stored : Stored
-  pub encrypted : is_linear stored ≡ false
-  pub key : Option (List ℕ)
-  pub under : IsUnderKey device stored pass key
-  pub loses : WouldLose w stored.valid.meta stored.valid.sizes device.tail refusal
 
 -- the disk was only read: by its header the volume isn't encrypted
 pub record IsLinearOn (old new : Device) : Type 0 where
@@ -62,16 +48,13 @@ IsNotLinear device refusal = (first : List ℕ) (stored : Stored) → device.val
     → stored_in (sizes_alone device) first ≡ Ok stored → is_linear stored ≡ false
 
 -- why no key was found on a disk, which was only read
-abbrev pub IsLockedBy : {D : Type 0} → (D → Device) → D → Wish → List ℕ → Refusal → D → Type 0
-IsLockedBy device disk w pass (refusals.Unopened (openings.Opening cause)) back = ⊥
-IsLockedBy device disk w pass (refusals.Unopened refusal) back =
+abbrev pub IsLockedBy : {D : Type 0} → (D → Device) → D → List ℕ → Refusal → D → Type 0
+IsLockedBy device disk pass (refusals.Unopened (openings.Opening cause)) back = ⊥
+IsLockedBy device disk pass (refusals.Unopened refusal) back =
     IsUnopenedBy device disk pass refusal None back × IsNotLinear (device disk) refusal
-IsLockedBy device disk w pass refusals.Linear back = IsLinearOn (device disk) (device back)
-IsLockedBy device disk w pass refusals.Memory back =
-    WouldLoseOn (device disk) w pass (device back) refusals.Memory
-IsLockedBy device disk w pass (refusals.Keyslots list) back =
-    WouldLoseOn (device disk) w pass (device back) (refusals.Keyslots list)
-IsLockedBy device disk w pass (refusals.Tail bytes) back =
-    WouldLoseOn (device disk) w pass (device back) (refusals.Tail bytes)
-IsLockedBy device disk w pass (refusals.Unmade fault) back = ⊥
-IsLockedBy device disk w pass refusals.Writing back = ⊥
+IsLockedBy device disk pass refusals.Linear back = IsLinearOn (device disk) (device back)
+IsLockedBy device disk pass refusals.Memory back = ⊥
+IsLockedBy device disk pass (refusals.Keyslots list) back = ⊥
+IsLockedBy device disk pass (refusals.Tail bytes) back = ⊥
+IsLockedBy device disk pass (refusals.Unmade fault) back = ⊥
+IsLockedBy device disk pass refusals.Writing back = ⊥

@@ -18,11 +18,14 @@ use std::alloc::Global;
 /// stretched from the 32 bytes of `seed`. The header is read, and the keyslots; then the disk is
 /// synced, the header is read and checked once more, a copy of it that lacks or is older is written
 /// anew, and the new keyslot's area is written, and both copies of the next header, each synced.
-/// Unless the wish says that they may go, none is begun where keyslots of other passphrases hold the
-/// volume's key, and none where bytes of the volume lie behind the disk's last whole atom.
+///
+/// By the header that was read behind the sync nothing is to be lost. Unless the wish says that they
+/// may go, none is begun where more than one keyslot holds the volume's key by it. None is begun
+/// where bytes that may be sectors of the volume lie behind the disk's last whole atom.
+///
 /// Before anything is written the gate is told what changes besides the key, and which copy of the
-/// header is written anew. Nothing is written before all checks have passed and all is made, and memory is never wanted once
-/// something was written. No block of the volume is read or written.
+/// header is written anew. Nothing is written before all checks have passed and all is made, and
+/// memory is never wanted once something was written. No block of the volume is read or written.
 ///
 /// # Errors
 ///
@@ -41,7 +44,7 @@ pub fn begin_conversion<D: Disk, G: Gate>(
     ensures refused { IfErr result (λ unstarted. IsUnstartedBy D.device disk wish.now pass.now
         seed.now unstarted.refusal unstarted.disk) }
 {
-    let (disk, unlocked) = unlock_volume(alloc, disk, pass, wish);
+    let (disk, unlocked) = unlock_volume(alloc, disk, pass);
     let new = match unlocked {
         Ok(key) => key,
         Err(refusal) => return Err(Unstarted { disk, refusal }),

@@ -17,12 +17,12 @@ pub enum Refusal {
     Linear,
     /// Memory was wanted to list the keyslots that hold the volume's key.
     Memory,
-    /// Besides the keyslot that the passphrase opens others hold the volume's key, which a
-    /// conversion would drop, and it isn't asked for: all that hold it, by number and kind. It is
-    /// tested once the passphrase gave the key.
+    /// More than one keyslot holds the volume's key, of which a conversion would keep none, and it
+    /// isn't said that they may go: all that hold it, by number and kind. It is tested on the header
+    /// by which the conversion would begin.
     Keyslots(Listed<(u64, SlotKind)>),
-    /// The volume goes to the end of the disk, and so many bytes of it lie there behind the last
-    /// whole atom, which a conversion wouldn't reach.
+    /// The volume goes to the end of the disk, and so many bytes that may be sectors of it lie there
+    /// behind the last whole atom, which a conversion wouldn't reach.
     Tail(u64),
     /// What is to be written can't be made.
     Unmade(MakeFault),

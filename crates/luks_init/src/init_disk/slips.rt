@@ -26,7 +26,7 @@ fn key_holders(alloc: Global, valid: &Valid) -> Result<Vec<(u64, SlotKind)>, All
     }
 }
 
-/// Refuses to drop keyslots of other passphrases unasked.
+/// Refuses to drop keyslots unasked where more than one holds the volume's key.
 #[tactic(auto, using(crate::proofs::DiskInit::SlipLemmas::few_kept, crate::proofs::DiskInit::SlipLemmas::others_go))]
 fn keep_others(alloc: Global, valid: &Valid, wish: &Wish) -> Result<(), Refusal>
     ensures { MatchResult result
@@ -45,9 +45,9 @@ fn keep_others(alloc: Global, valid: &Valid, wish: &Wish) -> Result<(), Refusal>
     Ok(())
 }
 
-/// Refuses a conversion by which an operator would lose keyslots of other passphrases, unless they
-/// may go, or bytes of the volume that lie behind the last whole atom of the disk, which has so many
-/// there.
+/// Refuses a conversion of a volume whose key more than one keyslot holds, unless they may go. It
+/// refuses one by which bytes would be lost that may be sectors of the volume: they lie behind the
+/// last whole atom of the disk, which has so many there.
 #[tactic(auto, using(crate::proofs::DiskInit::SlipLemmas::nothing_lost, crate::proofs::DiskInit::SlipLemmas::tail_lost))]
 pub(crate) fn lose_nothing(
     alloc: Global,

@@ -3,10 +3,14 @@
 ghost use Rattle.std.specs.Prelude.{◌≡◌, IfErr, IfOk};
 ghost use Rattle.header_report.specs.Examinations.{sizes_alone};
 ghost use Rattle.luks_init.specs.DiskInit.Calls.{IsBegunOf, IsReady, IsUnbegunOf};
+ghost use Rattle.luks_init.specs.DiskInit.Makings.{IsMade, IsUnready};
+ghost use Rattle.luks_init.specs.DiskInit.Slips.{LosesNothing};
 ghost use Rattle.luks_init.specs.declared.init_disk.refusal.Refusal.TheVariants.{Unopened};
 ghost use Rattle.luks_init.specs.Wishes.{IsWish};
+ghost use Rattle.reenc_meta.specs.Placements.{all_atoms};
 ghost use Rattle.reenc_recovery.specs.Calls.{DiskSyncsAndReads};
 ghost use Rattle.sector_disk.specs.Devices.{succeeded};
+ghost use Rattle.sector_disk.specs.Geometry.{IsDisk};
 ghost use Rattle.volume_opening.specs.declared.refusal.Refusal.TheVariants.{Opening};
 
 use crate::Wish;
@@ -15,6 +19,7 @@ use crate::init_disk::checking::check_alone;
 use crate::init_disk::laws::slots_keep_contents;
 use crate::init_disk::making::make_slot;
 use crate::init_disk::refusal::Refusal;
+use crate::init_disk::slips::lose_nothing;
 use base_terms::Failed;
 use gates::Gate;
 use luks_store::header_copies::Repair;
@@ -39,6 +44,33 @@ fn unopened(cause: OpenCause) -> Refusal
     ensures { result ≡ Unopened (Opening cause) }
 {
     Refusal::Unopened(volume_opening::Refusal::Opening(cause))
+}
+
+/// What is to be written of a header that passed all checks, unless something would be lost by it of
+/// a disk that has so many bytes behind its last whole atom.
+fn make_safely(
+    alloc: Global,
+    header: &Loaded,
+    tail: u64,
+    wish: &Wish,
+    pass: &[u8],
+    seed: &[u8; 32],
+) -> Result<SlotCommit, Refusal>
+    requires disk { IsDisk header.now.valid.sizes.atom (all_atoms header.now.valid.sizes) }
+    requires wish { IsWish wish.now header.now.valid.sizes.atom }
+    ensures safe { IfOk result (λ _. LosesNothing wish.now header.now.valid.meta
+        header.now.valid.sizes tail) }
+    ensures made { IfOk result (IsMade header.now wish.now pass.now seed.now) }
+    ensures unready { IfErr result (IsUnready header.now wish.now pass.now seed.now tail) }
+{
+    match lose_nothing(alloc, header.valid(), tail, wish) {
+        Ok(()) => {}
+        Err(refusal) => return Err(refusal),
+    }
+    match make_slot(alloc, header, wish, pass, seed) {
+        Ok(slot) => Ok(slot),
+        Err(fault) => Err(Refusal::Unmade(fault)),
+    }
 }
 
 /// Syncs a disk, reads its header, and makes all checks and what is to be written. Nothing is
@@ -74,7 +106,7 @@ fn make_ready<D: Disk>(
         opening: _opening,
         repair,
     } = checked;
-    match make_slot(alloc, &header, wish, pass, seed) {
+    match make_safely(alloc, &header, disk.tail(), wish, pass, seed) {
         Ok(slot) => {
             let ready = Ready {
                 header,
@@ -83,7 +115,7 @@ fn make_ready<D: Disk>(
             };
             (disk, Ok(ready))
         }
-        Err(fault) => (disk, Err(Refusal::Unmade(fault))),
+        Err(refusal) => (disk, Err(refusal)),
     }
 }
 

@@ -4,9 +4,7 @@ ghost use Rattle.std.specs.Prelude.{◌≡◌, IfErr, IfOk};
 ghost use Rattle.luks_init.specs.DiskInit.Unlocking.{IsLockedBy, IsUnlockedOn, linear_by};
 ghost use Rattle.luks_rules.specs.Idles.{idle_of};
 
-use crate::Wish;
 use crate::init_disk::refusal::Refusal;
-use crate::init_disk::slips::lose_nothing;
 use luks_rules::Valid;
 use luks_slots::Key;
 use sector_disk::Disk;
@@ -29,18 +27,16 @@ fn is_linear(valid: &Valid) -> bool
 /// # Errors
 ///
 /// No header was read, a conversion is under way, the volume isn't encrypted, the passphrase doesn't
-/// have 1 to 512 bytes, or no keyslot gave a key; or by the conversion that is wished keyslots of
-/// other passphrases would go unasked, or bytes of the volume lie behind the disk's last whole atom.
+/// have 1 to 512 bytes, or no keyslot gave a key.
 pub(crate) fn unlock_volume<D: Disk>(
     alloc: Global,
     disk: D,
     pass: &[u8],
-    wish: &Wish,
 ) -> (D, Result<Option<Key>, Refusal>)
     ensures unlocked { IfOk result.1
-        (λ key. IsUnlockedOn (D.device disk) wish.now pass.now key (D.device result.0)) }
+        (λ key. IsUnlockedOn (D.device disk) pass.now key (D.device result.0)) }
     ensures locked { IfErr result.1
-        (λ refusal. IsLockedBy D.device disk wish.now pass.now refusal result.0) }
+        (λ refusal. IsLockedBy D.device disk pass.now refusal result.0) }
 {
     let (disk, loaded) = read_header(alloc, disk);
     let mut disk = disk;
@@ -54,12 +50,8 @@ pub(crate) fn unlock_volume<D: Disk>(
     if is_linear(loaded.valid()) {
         return (disk, Err(Refusal::Linear));
     }
-    let key = match find_key(alloc, loaded.valid(), &mut disk, pass) {
-        Ok(key) => key,
-        Err(refusal) => return (disk, Err(Refusal::Unopened(refusal))),
-    };
-    match lose_nothing(alloc, loaded.valid(), disk.tail(), wish) {
-        Ok(()) => (disk, Ok(key)),
-        Err(refusal) => (disk, Err(refusal)),
+    match find_key(alloc, loaded.valid(), &mut disk, pass) {
+        Ok(key) => (disk, Ok(key)),
+        Err(refusal) => (disk, Err(Refusal::Unopened(refusal))),
     }
 }

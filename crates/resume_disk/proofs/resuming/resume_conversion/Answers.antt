@@ -18,7 +18,7 @@ returns-in-Ok-clause-finished g c =
       main = ap g.D.Disk.device c.parts-header.ensures.main;
       head = ap (in_front g.D.Disk.device back.atom) c.parts-header.ensures.head;
     })
-    _ (same_blocks c.progress-blocks.ensures)
+    c.parts-header.ensures.alone _ (same_blocks c.progress-blocks.ensures)
     c.conclude.result c.conclude.ensures.finished
 
 -- it ended otherwise
@@ -35,5 +35,5 @@ returns-in-Ok-clause-unfinished g c =
       main = ap g.D.Disk.device c.parts-header.ensures.main;
       head = ap (in_front g.D.Disk.device back.atom) c.parts-header.ensures.head;
     })
-    _ (same_blocks c.progress-blocks.ensures)
+    c.parts-header.ensures.alone _ (same_blocks c.progress-blocks.ensures)
     c.conclude.result c.conclude.ensures.halted
