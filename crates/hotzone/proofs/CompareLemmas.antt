@@ -1,7 +1,8 @@
 -- The digests of a part are compared, and what is saved of it lies on the disk.
 use Rattle.std.proofs.Common.{◌≡◌, ◌∙◌, ℕ, ◌+◌, ◌*◌, ◌/◌, ◌%◌, ◌^◌, ◌<◌, ◌≤◌, List, length, take, Result, Err}
-use Rattle.std.proofs.Common.{refl, sym, ap, subst, arith, mul-le-mul_right}
+use Rattle.std.proofs.Common.{refl, sym, ap, subst, arith, inl, inr, mul-le-mul_right}
 use Rattle.std.proofs.Math.Nat.{mul-div_cancel, mul-mod_left}
+use Rattle.std.proofs.lemmas.Grind.{div_ceil_times}
 use Rattle.std.proofs.lemmas.List.{length-take-le}
 use Rattle.base_terms.specs.declared.failed.Failed.{Failed}
 use Rattle.sector_disk.proofs.DiskViews.Blockwise.{block_end, blocks_end}
@@ -12,8 +13,6 @@ use Rattle.hotzone.proofs.PartLemmas.{atoms-few, part-front}
 use Rattle.hotzone.specs.Making.{Makes}
 use Rattle.hotzone.specs.Steps.{Clashes, clashes, clashes_first}
 use Rattle.hotzone.specs.Steps.{IsClash, IsSavedText, SavesPart, TellsBy, TellsPart, part_in, resealed}
-use Rattle.hotzone.specs.Workers.{IsAsLong}
-use Rattle.hotzone.specs.declared.scratch.Scratch.{Scratch}
 use Rattle.hotzone.specs.declared.site.Guard.TheVariants as guards
 use Rattle.hotzone.specs.declared.site.Site.{Site}
 use Rattle.hotzone.specs.declared.worker.Halt.TheVariants.{GivenUp}
@@ -23,7 +22,7 @@ use Rattle.hotzone.specs.declared.worker.Worker.{Worker}
 use Rattle.hotzone.specs.declared.worker.ZoneFault.{ZoneFault}
 use Rattle.hotzone.specs.declared.worker.ZoneFault.TheVariants as faults
 use Rattle.resil_checksum.specs.Clashes.{AllDiffer, IsLowestClash}
-use Rattle.resil_checksum.specs.Digests.{AreSaved, saved_len}
+use Rattle.resil_checksum.specs.Digests.{AreDigests, AreSaved, saved_len}
 use Rattle.sector_disk.specs.Devices.{Device, WriteCall}
 use Rattle.sector_disk.specs.Geometry.{IsAtom, IsDisk, IsInDisk}
 use Rattle.sha2.specs.Sha256.{sha256}
@@ -72,6 +71,21 @@ clash-place site done k old some long below =
     let inside : k < part_at site done = omega (arith, below, count) in
     omega (arith, inside)
 
+-- no part has more digests than the first
+pub digests-front : (site : Site) (done : ℕ) → IsAtom site.atom
+    → saved_len (part_at site done) site.atom ≤ saved_len (part_at site 0) site.atom
+digests-front site done known =
+    mul-le-mul_right site.atom
+    (ceil-fewer site.atom (part_at site done) (part_at site 0) known (omega arith))
+
+-- the numbers of its blocks fit 64 bits where those of their sectors do
+pub few-blocks : (atom tweak blocks : ℕ) → IsAtom atom → tweak + blocks * (atom / 512) < 2 ^ 64
+    → blocks < 2 ^ 64
+few-blocks atom tweak blocks (inl is) fits =
+    let here = subst (λ a. tweak + blocks * (a / 512) < 2 ^ 64) is fits in omega (arith, here)
+few-blocks atom tweak blocks (inr is) fits =
+    let here = subst (λ a. tweak + blocks * (a / 512) < 2 ^ 64) is fits in omega (arith, here)
+
 -- ---- digests are compared
 module _ {C : Type 0} (seals : Seals) (w : Worker C) (done : ℕ) (old new : List ℕ)
     (guard : w.site.guard ≡ guards.Checksum) (some : 0 < w.site.atom)
@@ -107,6 +121,98 @@ module _ {C : Type 0} (seals : Seals) (w : Worker C) (done : ℕ) (old new : Lis
     digest_is = is ∙ ap (λ o. sha256 (block_at w.site.atom o k)) old_is;
   }
 
+-- ---- ... by digests of the part that are laid, with it sealed anew
+pub record IsCompared {C : Type 0} (seals : Seals) (w : Worker C) (done : ℕ)
+    (old new digests : List ℕ) : Type 0 where
+  pub part : old ≡ part_in w done
+  pub long : length old ≡ bytes_at w.site done
+  pub is : new ≡ resealed seals (w.site.blocks.start + done) old
+  pub same : length new ≡ length old
+  pub laid : AreSaved w.site.atom (length old / w.site.atom) old digests
+  pub enough : length new / w.site.atom * 32 ≤ length digests
+
+pub compared : {C : Type 0} (seals : Seals) (w : Worker C) (done size len : ℕ)
+    (old sealed new laid digests : List ℕ) → IsAtom w.site.atom → 0 < w.site.atom
+    → bytes_at w.site 0 ≤ length w.buffer → size ≡ bytes_at w.site done → old ≡ take size w.buffer
+    → bytes_at w.site 0 ≤ length sealed
+    → take (length old) sealed ≡ resealed seals (w.site.blocks.start + done) old
+    → new ≡ take size sealed → len ≡ saved_len (part_at w.site done) w.site.atom
+    → saved_len (part_at w.site 0) w.site.atom ≤ length laid
+    → AreSaved w.site.atom (length old / w.site.atom) old (take len laid) → digests ≡ take len laid
+    → IsCompared seals w done old new digests
+compared seals w done size len old sealed new laid digests known some room size_is old_is sealed_room
+    sealed_is new_is len_is laid_room saved digests_are =
+    let long = front-long w done size old room size_is old_is in
+    let fits : size ≤ length sealed =
+    subst (λ n. n ≤ length sealed) (sym size_is) (part-front w.site done (length sealed) sealed_room) in
+    let new_long : length new ≡ size = ap length new_is ∙ length-take-le size sealed fits in
+    let same : length new ≡ length old = new_long ∙ size_is ∙ sym long in
+    let count = long-count w.site done new some (same ∙ long) in
+    let inside = digests-front w.site done known in
+    let laid_long : length digests ≡ len =
+    ap length digests_are ∙ length-take-le len laid (omega (arith, inside, laid_room, len_is)) in
+    let ceil = (div_ceil_times (part_at w.site done * 32) w.site.atom some).0 in
+    record {
+      part = front-is w done size old size_is old_is;
+      long = long;
+      is = new_is ∙ ap (λ n. take n sealed) (size_is ∙ sym long) ∙ sealed_is;
+      same = same;
+      laid = subst (AreSaved w.site.atom (length old / w.site.atom) old) (sym digests_are) saved;
+      enough = omega (arith, count, laid_long, len_is, ceil);
+    }
+
+module _ {C : Type 0} (seals : Seals) (w : Worker C) (done : ℕ) (old new digests : List ℕ)
+    (guard : w.site.guard ≡ guards.Checksum) (some : 0 < w.site.atom)
+    (here : IsCompared seals w done old new digests) where
+  of-new : (P : ℕ → Type 0) → P (length new / w.site.atom) → P (length old / w.site.atom)
+  of-new P is = subst (λ n. P (n / w.site.atom)) here.same is
+
+  laid-digests : AreDigests w.site.atom (length new / w.site.atom) old digests
+  laid-digests =
+      subst (λ n. AreDigests w.site.atom (n / w.site.atom) old digests) (sym here.same)
+      here.laid.digests
+
+  pub new-whole : length new % w.site.atom ≡ 0
+  new-whole = long-whole w.site done new (here.same ∙ here.long)
+
+  pub laid-none : ((xs : List ℕ) → AreDigests w.site.atom (length new / w.site.atom) xs digests
+      → AllDiffer w.site.atom (length new / w.site.atom) xs new) → TellsPart seals w done
+  laid-none differ =
+      tells-none seals w done old new guard some here.part here.long here.is
+      (of-new (λ n. AllDiffer w.site.atom n old new) (differ old laid-digests))
+
+  module _ (k : ℕ) (lowest : (xs : List ℕ)
+      → AreDigests w.site.atom (length new / w.site.atom) xs digests
+      → IsLowestClash w.site.atom (length new / w.site.atom) xs new k) where
+    pub laid-within : k * 32 + 32 ≤ length digests
+    laid-within =
+        let below = (lowest old laid-digests).within in
+        let enough = here.enough in
+        omega (arith, below, enough)
+
+    pub laid-place : w.site.blocks.start + done + k < w.site.blocks.end
+    laid-place =
+        clash-place w.site done k new some (here.same ∙ here.long) (lowest old laid-digests).within
+
+    pub laid-some : (digest : List ℕ) → digest ≡ block_at 32 digests k
+        → IsClash seals w done (w.site.blocks.start + done + k) digest
+    laid-some digest is =
+        let clash = of-new (λ n. IsLowestClash w.site.atom n old new k) (lowest old laid-digests) in
+        clash-some seals w done old new guard some here.part here.long here.is k digest clash
+        (is ∙ here.laid.digests k clash.within)
+
+  -- so they are laid as they are saved
+  pub laid-part : (laid : List ℕ) (len : ℕ) → len ≡ saved_len (part_at w.site done) w.site.atom
+      → digests ≡ take len laid
+      → AreSaved w.site.atom (part_at w.site done) (part_in w done)
+      (take (saved_len (part_at w.site done) w.site.atom) laid)
+  laid-part laid len len_is are =
+      subst (λ n. AreSaved w.site.atom (part_at w.site done) (part_in w done) (take n laid)) len_is
+      (subst (AreSaved w.site.atom (part_at w.site done) (part_in w done)) are
+      (subst (λ o. AreSaved w.site.atom (part_at w.site done) o digests) here.part
+      (subst (λ n. AreSaved w.site.atom n old digests)
+      (long-count w.site done old some here.long) here.laid)))
+
 -- ---- a zone is given up for them
 pub clash-first : {C : Type 0} (seals : Seals) (old new : Device) (w : Worker C) (fault : ZoneFault)
     → Clashes seals w 0 fault → new ≡ old
@@ -129,14 +235,6 @@ clash-later seals old new w done headers (faults.DigestClash block digest) clash
 clash-later seals old new w done headers (faults.SeqEnd left wanted) clash same = absurd clash
 clash-later seals old new w done headers (faults.JsonFull len limit) clash same = absurd clash
 clash-later seals old new w done headers faults.Memory clash same = absurd clash
-
--- as much room as there was
-pub long-on : (first now next : Scratch) → IsAsLong first now → IsAsLong now next
-    → IsAsLong first next
-long-on first now next one two = record {
-  sealed = two.sealed ∙ one.sealed;
-  digests = two.digests ∙ one.digests;
-}
 
 -- ---- what is saved lies on the disk
 blocks-inside : (atom atoms at n : ℕ) → at + n ≤ atoms → IsInDisk atom atoms at (n * atom)
@@ -183,13 +281,6 @@ saved-digests-part site done guard =
 
 pub saved-atoms-all : (site : Site) → site.guard ≡ guards.Journal → saved_count site ≡ count_of site
 saved-atoms-all site guard = ap (λ g. saved_atoms (kind_of g) site.atom (count_of site)) guard
-
--- no part has more digests than the first
-pub digests-front : (site : Site) (done : ℕ) → IsAtom site.atom
-    → saved_len (part_at site done) site.atom ≤ saved_len (part_at site 0) site.atom
-digests-front site done known =
-    mul-le-mul_right site.atom
-    (ceil-fewer site.atom (part_at site done) (part_at site 0) known (omega arith))
 
 pub saves-digests : {C : Type 0} (w : Worker C) (done : ℕ) (old new : Device)
     (result : Result (Unit {0}) Failed) (text : List ℕ) → w.site.guard ≡ guards.Checksum

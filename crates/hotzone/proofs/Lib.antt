@@ -25,3 +25,4 @@ pub mod SavedLemmas
 pub mod GuardLemmas
 pub mod CompareLemmas
 pub mod KeptLemmas
+pub mod LaidLemmas

@@ -3,6 +3,7 @@ pub mod Headings
 pub mod Endings
 pub mod Workers
 pub mod Steps
+pub mod Laid
 pub mod Making
 pub mod Known
 pub mod Promises

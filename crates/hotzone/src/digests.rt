@@ -2,12 +2,12 @@
 
 ghost use Rattle.std.specs.Prelude.{◌≡◌, ◌+◌, ◌*◌, ◌/◌, ◌%◌, ◌<◌, ◌≤◌, length, take, MatchOption};
 ghost use Rattle.hotzone.specs.Sites.{IsPartStart, bytes_at, count_of, part_at};
-ghost use Rattle.hotzone.specs.Steps.{Clashes, SavesPart, TellsPart, resealed};
+ghost use Rattle.hotzone.specs.Laid.{AreLaid, IsSealed};
+ghost use Rattle.hotzone.specs.Steps.{Clashes, SavesPart, TellsPart, part_in, resealed};
 ghost use Rattle.hotzone.specs.Workers.{FitsDisk, HasRoom, IsAsLong};
 ghost use Rattle.hotzone.specs.declared.site.Guard.TheVariants as guards;
 ghost use Rattle.resil_checksum.specs.Digests.{AreSaved, saved_len};
 ghost use Rattle.sector_disk.specs.Geometry.{IsAtom};
-ghost use Rattle.sha2.specs.Sha256.{sha256};
 ghost use Rattle.sector_disk.specs.DiskViews.Parts.{block_at};
 ghost use Rattle.volume_machine.specs.Seals.{KeysFit, seals_of};
 
@@ -17,10 +17,9 @@ use crate::site::{Guard, Site};
 use crate::worker::{Worker, ZoneFault};
 use base_terms::{Buffer, Failed};
 use cipher_laws::SectorCipher;
-use resil_checksum::{clash, save, saved_len};
+use resil_checksum::{clash_by, save, saved_len};
 use sector_disk::Disk;
 use segment_map::{Piece, Side};
-use sha2::{Digest, Sha256};
 use std::thread::Threads;
 use volume_machine::Keys;
 
@@ -77,20 +76,20 @@ fn reseal_into<R: Threads + Sync, C: SectorCipher + Sync>(
     reseal_front(rt, keys, atom, piece, old, buffer.as_mut_slice());
 }
 
-/// The digest of one of the blocks that these bytes are.
-fn digest_of(bytes: &[u8], atom: u32, block: u64) -> [u8; 32]
-    requires some { 0 < atom }
-    requires within { block * atom + atom ≤ length bytes.now }
-    ensures { result ≡ sha256 (block_at atom bytes.now block) }
+/// One of these digests.
+fn digest_at(digests: &[u8], block: u64) -> [u8; 32]
+    requires { block * 32 + 32 ≤ length digests.now }
+    ensures { result ≡ block_at 32 digests.now block }
 {
-    let size = atom as usize;
-    let at = block as usize * size;
-    Sha256::digest(&bytes[at..at + size])
+    let at = block as usize * 32;
+    let mut digest = [0; 32];
+    digest.copy_from_slice(&digests[at..at + 32]);
+    digest
 }
 
 impl<C: SectorCipher + Copy + Sync> Worker<C> {
     /// The first block of the part at hand of which old atom and new one have the same digest, where
-    /// digests are saved.
+    /// digests are saved. They are laid then, as they are saved.
     pub(crate) fn find_clash<R: Threads + Sync>(
         &self,
         rt: &R,
@@ -102,10 +101,15 @@ impl<C: SectorCipher + Copy + Sync> Worker<C> {
             (self.now.site.blocks.start + count_of self.now.site) }
         requires part { bytes_at self.now.site 0 ≤ length self.now.buffer }
         requires room { HasRoom self.now.site scratch.old }
+        requires sealed { IsSealed (seals_of C.sealed C.opened self.now.site.atom self.now.keys) self.now
+            scratch.old }
         requires within { done ≤ count_of self.now.site }
         ensures finds { MatchOption result
             (TellsPart (seals_of C.sealed C.opened self.now.site.atom self.now.keys) self.now done)
             (Clashes (seals_of C.sealed C.opened self.now.site.atom self.now.keys) self.now done) }
+        ensures laid { AreLaid self.now done scratch.new }
+        ensures sealed { IsSealed (seals_of C.sealed C.opened self.now.site.atom self.now.keys) self.now
+            scratch.new }
         ensures scratch { IsAsLong scratch.old scratch.new }
     {
         match self.site.guard {
@@ -127,26 +131,37 @@ impl<C: SectorCipher + Copy + Sync> Worker<C> {
             (self.now.site.blocks.start + count_of self.now.site) }
         requires part { bytes_at self.now.site 0 ≤ length self.now.buffer }
         requires room { bytes_at self.now.site 0 ≤ length scratch.old.sealed }
+        requires digests { saved_len (part_at self.now.site 0) self.now.site.atom
+            ≤ length scratch.old.digests }
         requires within { done ≤ count_of self.now.site }
         ensures finds { MatchOption result
             (TellsPart (seals_of C.sealed C.opened self.now.site.atom self.now.keys) self.now done)
             (Clashes (seals_of C.sealed C.opened self.now.site.atom self.now.keys) self.now done) }
+        ensures laid { AreSaved self.now.site.atom (part_at self.now.site done)
+            (part_in self.now done)
+            (take (saved_len (part_at self.now.site done) self.now.site.atom) scratch.new.digests) }
+        ensures sealed { IsSealed (seals_of C.sealed C.opened self.now.site.atom self.now.keys) self.now
+            scratch.new }
         ensures scratch { IsAsLong scratch.old scratch.new }
     {
         let site = self.site;
         let size = site.bytes(done);
         let old = self.buffer.front(size);
+        let len = site.digest_bytes(done);
+        lay_digests(rt, old, site.atom, &mut scratch.digests, len);
         let piece = Piece {
             first: site.blocks.start + done,
             count: site.part(done),
             side: Side::New,
         };
         reseal_into(rt, &self.keys, site.atom, piece, old, &mut scratch.sealed);
+        scratch.is_first = done == 0;
         let new = scratch.sealed.front(size);
-        match clash(rt, old, new, site.atom, count_parts(size)) {
+        let digests = scratch.digests.front(len);
+        match clash_by(rt, digests, new, site.atom, count_parts(size)) {
             Some(k) => Some(ZoneFault::DigestClash {
                 block: site.blocks.start + done + k,
-                digest: digest_of(old, site.atom, k),
+                digest: digest_at(digests, k),
             }),
             None => None,
         }
@@ -154,31 +169,28 @@ impl<C: SectorCipher + Copy + Sync> Worker<C> {
 }
 
 impl<C: SectorCipher + Copy> Worker<C> {
-    /// Saves the digests of the part at hand.
-    pub(crate) fn save_digests<R: Threads + Sync, D: Disk>(
+    /// Saves the digests of the part at hand, which are laid.
+    pub(crate) fn save_digests<D: Disk>(
         &self,
-        rt: &R,
-        digests: &mut Buffer,
+        digests: &Buffer,
         done: u64,
         disk: &mut D,
     ) -> Result<(), Failed>
         requires guard { self.now.site.guard ≡ guards.Checksum }
         requires fits { FitsDisk C.sector self.now (D.device disk.old) }
         requires room { saved_len (part_at self.now.site 0) self.now.site.atom
-            ≤ length digests.old }
+            ≤ length digests.now }
+        requires laid { AreSaved self.now.site.atom (part_at self.now.site done)
+            (part_in self.now done)
+            (take (saved_len (part_at self.now.site done) self.now.site.atom) digests.now) }
         requires within { done ≤ count_of self.now.site }
         requires start { IsPartStart self.now.site done }
         ensures call { SavesPart self.now done (D.device disk.old) (D.device disk.new) result }
-        ensures length { length digests.new ≡ length digests.old }
     {
         let site = self.site;
-        let size = site.bytes(done);
-        let part = self.buffer.front(size);
         let len = site.digest_bytes(done);
-        lay_digests(rt, part, site.atom, digests, len);
         let at = site.store + site.saved_at(done);
-        let text = digests.front(len);
-        disk.write(at, text)
+        disk.write(at, digests.front(len))
     }
 }
 

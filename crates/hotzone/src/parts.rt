@@ -1,9 +1,10 @@
 // The parts of a zone: the device calls that read, save and write them.
 
-ghost use Rattle.std.specs.Prelude.{◌≡◌, ◌+◌, ◌*◌, ◌<◌, ◌≤◌, length, take};
+ghost use Rattle.std.specs.Prelude.{◌≡◌, ◌+◌, ◌*◌, ◌<◌, ◌≤◌, length, take, true};
+ghost use Rattle.hotzone.specs.Laid.{AreLaid, IsSealed};
 ghost use Rattle.hotzone.specs.Sites.{IsPartStart, bytes_at, count_of};
 ghost use Rattle.hotzone.specs.Steps.{ReadsPart, SavesPart, WritesPart, part_in, resealed};
-ghost use Rattle.hotzone.specs.Workers.{FitsDisk, HasRoom, IsAsLong};
+ghost use Rattle.hotzone.specs.Workers.{FitsDisk, HasRoom};
 ghost use Rattle.hotzone.specs.declared.site.Guard.TheVariants as guards;
 ghost use Rattle.sector_disk.specs.Geometry.{IsAtom};
 ghost use Rattle.volume_machine.specs.Seals.{KeysFit, seals_of};
@@ -88,6 +89,15 @@ pub fn reseal<R: Threads + Sync, C: SectorCipher + Sync>(
     seal_many(rt, &keys.new, is, size, &mut bytes[..len], parts);
 }
 
+/// Lays bytes at the front of others.
+fn lay_first(bytes: &mut [u8], front: &[u8])
+    requires { length front.now ≤ length bytes.old }
+    ensures front { take (length front.now) bytes.new ≡ front.now }
+    ensures length { length bytes.new ≡ length bytes.old }
+{
+    bytes[..front.len()].copy_from_slice(front);
+}
+
 impl<C: SectorCipher + Copy> Worker<C> {
     /// Reads the part behind `done` atoms of the zone into the buffer.
     pub(crate) fn read_part<D: Disk>(
@@ -118,23 +128,22 @@ impl<C: SectorCipher + Copy> Worker<C> {
     }
 
     /// Saves the part at hand, by what guards the zone.
-    pub(crate) fn save_part<R: Threads + Sync, D: Disk>(
+    pub(crate) fn save_part<D: Disk>(
         &self,
-        rt: &R,
-        scratch: &mut Scratch,
+        scratch: &Scratch,
         done: u64,
         disk: &mut D,
     ) -> Result<(), Failed>
         requires fits { FitsDisk C.sector self.now (D.device disk.old) }
-        requires room { HasRoom self.now.site scratch.old }
+        requires room { HasRoom self.now.site scratch.now }
+        requires laid { AreLaid self.now done scratch.now }
         requires within { done ≤ count_of self.now.site }
         requires start { IsPartStart self.now.site done }
         ensures call { SavesPart self.now done (D.device disk.old) (D.device disk.new) result }
-        ensures scratch { IsAsLong scratch.old scratch.new }
     {
         match self.site.guard {
             Guard::Journal => self.save_atoms(done, disk),
-            Guard::Checksum => self.save_digests(rt, &mut scratch.digests, done, disk),
+            Guard::Checksum => self.save_digests(&scratch.digests, done, disk),
         }
     }
 
@@ -151,26 +160,62 @@ impl<C: SectorCipher + Copy> Worker<C> {
 }
 
 impl<C: SectorCipher + Copy + Sync> Worker<C> {
-    /// Writes the part at hand anew.
-    pub(crate) fn write_part<R: Threads + Sync, D: Disk>(
-        &mut self,
-        rt: &R,
-        done: u64,
-        disk: &mut D,
-    ) -> Result<(), Failed>
-        requires fits { FitsDisk C.sector self.old (D.device disk.old) }
+    /// The part at hand is sealed anew in the buffer; where that is done already, it is taken from
+    /// there.
+    fn seal_part<R: Threads + Sync>(&mut self, rt: &R, scratch: &Scratch, done: u64, len: usize)
+        requires known { IsAtom self.old.site.atom }
+        requires keys { KeysFit C.sector self.old.keys self.old.site.atom
+            (self.old.site.blocks.start + count_of self.old.site) }
+        requires room { bytes_at self.old.site 0 ≤ length self.old.buffer }
+        requires sealed { IsSealed
+            (seals_of C.sealed C.opened self.old.site.atom self.old.keys) self.old scratch.now }
         requires within { done ≤ count_of self.old.site }
-        ensures call { WritesPart
-            (seals_of C.sealed C.opened self.old.site.atom self.old.keys) self.old done
-            (D.device disk.old) (D.device disk.new) result }
-        ensures sealed { part_in self.new done
+        requires size { len ≡ bytes_at self.old.site done }
+        ensures sealed { take len self.new.buffer
+            ≡ resealed (seals_of C.sealed C.opened self.old.site.atom self.old.keys)
+            (self.old.site.blocks.start + done) (part_in self.old done) }
+        ensures rest { self.new ≡ record self.old { buffer = self.new.buffer } }
+        ensures long { length self.new.buffer ≡ length self.old.buffer }
+    {
+        if done == 0 && scratch.is_first {
+            self.take_sealed(scratch, done, len)
+        } else {
+            self.seal_anew(rt, done, len)
+        }
+    }
+
+    /// It is taken from where it is sealed.
+    fn take_sealed(&mut self, scratch: &Scratch, done: u64, len: usize)
+        requires room { bytes_at self.old.site 0 ≤ length self.old.buffer }
+        requires sealed { IsSealed
+            (seals_of C.sealed C.opened self.old.site.atom self.old.keys) self.old scratch.now }
+        requires first { scratch.now.is_first ≡ true }
+        requires none { done ≡ 0 }
+        requires size { len ≡ bytes_at self.old.site done }
+        ensures sealed { take len self.new.buffer
+            ≡ resealed (seals_of C.sealed C.opened self.old.site.atom self.old.keys)
+            (self.old.site.blocks.start + done) (part_in self.old done) }
+        ensures rest { self.new ≡ record self.old { buffer = self.new.buffer } }
+        ensures long { length self.new.buffer ≡ length self.old.buffer }
+    {
+        lay_first(self.buffer.as_mut_slice(), scratch.sealed.front(len));
+    }
+
+    /// It is sealed anew where it lies.
+    fn seal_anew<R: Threads + Sync>(&mut self, rt: &R, done: u64, len: usize)
+        requires known { IsAtom self.old.site.atom }
+        requires keys { KeysFit C.sector self.old.keys self.old.site.atom
+            (self.old.site.blocks.start + count_of self.old.site) }
+        requires room { bytes_at self.old.site 0 ≤ length self.old.buffer }
+        requires within { done ≤ count_of self.old.site }
+        requires size { len ≡ bytes_at self.old.site done }
+        ensures sealed { take len self.new.buffer
             ≡ resealed (seals_of C.sealed C.opened self.old.site.atom self.old.keys)
             (self.old.site.blocks.start + done) (part_in self.old done) }
         ensures rest { self.new ≡ record self.old { buffer = self.new.buffer } }
         ensures long { length self.new.buffer ≡ length self.old.buffer }
     {
         let site = self.site;
-        let len = site.bytes(done);
         let piece = Piece {
             first: site.blocks.start + done,
             count: site.part(done),
@@ -184,6 +229,32 @@ impl<C: SectorCipher + Copy + Sync> Worker<C> {
             self.buffer.as_mut_slice(),
             len,
         );
+    }
+
+    /// Writes the part at hand anew.
+    pub(crate) fn write_part<R: Threads + Sync, D: Disk>(
+        &mut self,
+        rt: &R,
+        scratch: &Scratch,
+        done: u64,
+        disk: &mut D,
+    ) -> Result<(), Failed>
+        requires fits { FitsDisk C.sector self.old (D.device disk.old) }
+        requires sealed { IsSealed
+            (seals_of C.sealed C.opened self.old.site.atom self.old.keys) self.old scratch.now }
+        requires within { done ≤ count_of self.old.site }
+        ensures call { WritesPart
+            (seals_of C.sealed C.opened self.old.site.atom self.old.keys) self.old done
+            (D.device disk.old) (D.device disk.new) result }
+        ensures sealed { part_in self.new done
+            ≡ resealed (seals_of C.sealed C.opened self.old.site.atom self.old.keys)
+            (self.old.site.blocks.start + done) (part_in self.old done) }
+        ensures rest { self.new ≡ record self.old { buffer = self.new.buffer } }
+        ensures long { length self.new.buffer ≡ length self.old.buffer }
+    {
+        let site = self.site;
+        let len = site.bytes(done);
+        self.seal_part(rt, scratch, done, len);
         disk.write(site.own + done, self.buffer.front(len))
     }
 }

@@ -2,6 +2,7 @@
 
 ghost use Rattle.std.specs.Prelude.{◌≡◌, ◌<◌, ◌≤◌, Err};
 ghost use Rattle.hotzone.specs.Headings.{AreMade, MayOpenFrom};
+ghost use Rattle.hotzone.specs.Laid.{AreLaid, IsSealed};
 ghost use Rattle.hotzone.specs.Making.{Makes};
 ghost use Rattle.hotzone.specs.Sites.{IsPartStart, count_of};
 ghost use Rattle.hotzone.specs.Steps.{TellsPart, after_save};
@@ -63,62 +64,54 @@ impl<C: SectorCipher + Copy + Sync> Worker<C> {
     ) -> Made
         requires fits { FitsDisk C.sector self.now (D.device disk.old) }
         requires room { HasRoom self.now.site scratch.old }
+        requires sealed { IsSealed (seals_of C.sealed C.opened self.now.site.atom self.now.keys) self.now
+            scratch.old }
         requires disk { IsDisk self.now.loaded.valid.sizes.atom
             (all_atoms self.now.loaded.valid.sizes) }
         requires may { MayOpenFrom self.now.loaded (count_of self.now.site) }
         ensures makes { Makes (seals_of C.sealed C.opened self.now.site.atom self.now.keys)
             (D.device disk.old) (D.device disk.new) self.now SaveFirst self.now result }
+        ensures sealed { IsSealed (seals_of C.sealed C.opened self.now.site.atom self.now.keys) self.now
+            scratch.new }
         ensures scratch { IsAsLong scratch.old scratch.new }
     {
         match self.find_clash(rt, scratch, 0) {
             Some(fault) => give_up(fault, NextCall::SaveFirst),
-            None => self.save_made(rt, alloc, scratch, disk),
+            None => self.save_made(alloc, scratch, disk),
         }
     }
 
     /// The headers are made, and the first part is saved.
-    fn save_made<R: Threads + Sync, D: Disk>(
-        &self,
-        rt: &R,
-        alloc: Global,
-        scratch: &mut Scratch,
-        disk: &mut D,
-    ) -> Made
+    fn save_made<D: Disk>(&self, alloc: Global, scratch: &Scratch, disk: &mut D) -> Made
         requires fits { FitsDisk C.sector self.now (D.device disk.old) }
-        requires room { HasRoom self.now.site scratch.old }
+        requires room { HasRoom self.now.site scratch.now }
+        requires laid { AreLaid self.now 0 scratch.now }
         requires tells { TellsPart (seals_of C.sealed C.opened self.now.site.atom self.now.keys)
             self.now 0 }
         requires disk { IsDisk self.now.loaded.valid.sizes.atom
             (all_atoms self.now.loaded.valid.sizes) }
         requires may { MayOpenFrom self.now.loaded (count_of self.now.site) }
-        ensures makes { Makes (seals_of C.sealed C.opened self.now.site.atom self.now.keys)
+        ensures { Makes (seals_of C.sealed C.opened self.now.site.atom self.now.keys)
             (D.device disk.old) (D.device disk.new) self.now SaveFirst self.now result }
-        ensures scratch { IsAsLong scratch.old scratch.new }
     {
         match make_headers(alloc, &self.loaded, self.site.blocks.len()) {
-            Ok(headers) => self.save_with(rt, scratch, headers, disk),
+            Ok(headers) => self.save_with(scratch, headers, disk),
             Err(fault) => give_up(fault, NextCall::SaveFirst),
         }
     }
 
     /// The first part is saved.
-    fn save_with<R: Threads + Sync, D: Disk>(
-        &self,
-        rt: &R,
-        scratch: &mut Scratch,
-        headers: Headers,
-        disk: &mut D,
-    ) -> Made
+    fn save_with<D: Disk>(&self, scratch: &Scratch, headers: Headers, disk: &mut D) -> Made
         requires fits { FitsDisk C.sector self.now (D.device disk.old) }
-        requires room { HasRoom self.now.site scratch.old }
+        requires room { HasRoom self.now.site scratch.now }
+        requires laid { AreLaid self.now 0 scratch.now }
         requires tells { TellsPart (seals_of C.sealed C.opened self.now.site.atom self.now.keys)
             self.now 0 }
         requires made { AreMade self.now.loaded (count_of self.now.site) headers }
-        ensures makes { Makes (seals_of C.sealed C.opened self.now.site.atom self.now.keys)
+        ensures { Makes (seals_of C.sealed C.opened self.now.site.atom self.now.keys)
             (D.device disk.old) (D.device disk.new) self.now SaveFirst self.now result }
-        ensures scratch { IsAsLong scratch.old scratch.new }
     {
-        match self.save_part(rt, scratch, 0, disk) {
+        match self.save_part(scratch, 0, disk) {
             Ok(()) => Made {
                 next: behind_save(&self.site, 0, headers),
                 answer: Ok(Stepped::Went),
@@ -143,21 +136,24 @@ impl<C: SectorCipher + Copy + Sync> Worker<C> {
         requires start { IsPartStart self.now.site done }
         requires fits { FitsDisk C.sector self.now (D.device disk.old) }
         requires room { HasRoom self.now.site scratch.old }
+        requires sealed { IsSealed (seals_of C.sealed C.opened self.now.site.atom self.now.keys) self.now
+            scratch.old }
         ensures makes { Makes (seals_of C.sealed C.opened self.now.site.atom self.now.keys)
             (D.device disk.old) (D.device disk.new) self.now (Save done headers) self.now result }
+        ensures sealed { IsSealed (seals_of C.sealed C.opened self.now.site.atom self.now.keys) self.now
+            scratch.new }
         ensures scratch { IsAsLong scratch.old scratch.new }
     {
         match self.find_clash(rt, scratch, done) {
             Some(fault) => give_up(fault, NextCall::Save { done, headers }),
-            None => self.save_told(rt, scratch, done, headers, disk),
+            None => self.save_told(scratch, done, headers, disk),
         }
     }
 
     /// It is saved.
-    fn save_told<R: Threads + Sync, D: Disk>(
+    fn save_told<D: Disk>(
         &self,
-        rt: &R,
-        scratch: &mut Scratch,
+        scratch: &Scratch,
         done: u64,
         headers: Headers,
         disk: &mut D,
@@ -165,14 +161,14 @@ impl<C: SectorCipher + Copy + Sync> Worker<C> {
         requires within { done < count_of self.now.site }
         requires start { IsPartStart self.now.site done }
         requires fits { FitsDisk C.sector self.now (D.device disk.old) }
-        requires room { HasRoom self.now.site scratch.old }
+        requires room { HasRoom self.now.site scratch.now }
+        requires laid { AreLaid self.now done scratch.now }
         requires tells { TellsPart (seals_of C.sealed C.opened self.now.site.atom self.now.keys)
             self.now done }
-        ensures makes { Makes (seals_of C.sealed C.opened self.now.site.atom self.now.keys)
+        ensures { Makes (seals_of C.sealed C.opened self.now.site.atom self.now.keys)
             (D.device disk.old) (D.device disk.new) self.now (Save done headers) self.now result }
-        ensures scratch { IsAsLong scratch.old scratch.new }
     {
-        match self.save_part(rt, scratch, done, disk) {
+        match self.save_part(scratch, done, disk) {
             Ok(()) => Made {
                 next: behind_save(&self.site, done, headers),
                 answer: Ok(Stepped::Went),

@@ -1,6 +1,7 @@
 // The steps of a zone, one device call each.
 
 ghost use Rattle.std.specs.Prelude.{◌≡◌, ◌<◌, ◌≤◌, MatchBool};
+ghost use Rattle.hotzone.specs.Laid.{IsSealed};
 ghost use Rattle.hotzone.specs.Making.{GoesOn, IsZoneDone, Makes};
 ghost use Rattle.hotzone.specs.Steps.{HasMoved, after_open, after_write};
 ghost use Rattle.hotzone.specs.Workers.{IsNextZone, MayGoOn};
@@ -14,6 +15,7 @@ ghost use Rattle.reenc_meta.specs.Placements.{all_atoms};
 ghost use Rattle.sector_disk.specs.Geometry.{IsDisk};
 ghost use Rattle.volume_machine.specs.Seals.{seals_of};
 
+use crate::scratch::Scratch;
 use crate::site::{Site, guard_by, next_site, room_of};
 use crate::worker::{Halt, Headers, NextCall, NextHeader, Stepped, Worker, ZoneFault};
 use base_terms::Failed;
@@ -336,16 +338,19 @@ impl<C: SectorCipher + Copy + Sync> Worker<C> {
     pub(crate) fn write<R: Threads + Sync, D: Disk>(
         &mut self,
         rt: &R,
+        scratch: &Scratch,
         done: u64,
         headers: Headers,
         disk: &mut D,
     ) -> Made
         requires within { done < count_of self.old.site }
         requires fits { FitsDisk C.sector self.old (D.device disk.old) }
+        requires sealed { IsSealed
+            (seals_of C.sealed C.opened self.old.site.atom self.old.keys) self.old scratch.now }
         ensures { Makes (seals_of C.sealed C.opened self.old.site.atom self.old.keys)
             (D.device disk.old) (D.device disk.new) self.old (Write done headers) self.new result }
     {
-        match self.write_part(rt, done, disk) {
+        match self.write_part(rt, scratch, done, disk) {
             Ok(()) => Made {
                 next: behind_write(&self.site, done, headers),
                 answer: Ok(Stepped::Went),

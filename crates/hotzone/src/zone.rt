@@ -44,11 +44,13 @@ impl<C: SectorCipher + Copy> Drop for Zone<C> {
 }
 
 impl<C: SectorCipher + Copy> Model for Zone<C> {
+    ghost use Rattle.hotzone.specs.Laid.{IsSealed};
     ghost use Rattle.hotzone.specs.Workers.{HasRoom, IsWorking};
     ghost use Rattle.hotzone.specs.declared.worker.Worker.{Worker as worker_type};
     ghost use Rattle.luks_store.specs.contracts.commit.Prepared as prepared_type;
     ghost use Rattle.luks_store.specs.contracts.loaded.Stored as stored_type;
     ghost use Rattle.std.specs.Coded.{codes};
+    ghost use Rattle.volume_machine.specs.Seals.{seals_of};
 
     ghost Value = { worker_type C };
 
@@ -57,7 +59,9 @@ impl<C: SectorCipher + Copy> Model for Zone<C> {
     ghost view = { λ zone. zone.worker };
 
     ghost invariant = { λ zone. IsWorking C.sector zone.worker
-        × HasRoom zone.worker.site zone.scratch };
+        × HasRoom zone.worker.site zone.scratch
+        × IsSealed (seals_of C.sealed C.opened zone.worker.site.atom zone.worker.keys)
+        zone.worker zone.scratch };
 }
 
 /// A worker that begins with a header, with the buffer of a part.
@@ -251,6 +255,7 @@ impl<C: SectorCipher + Copy + Sync> Zone<C> {
 }
 
 impl<C: SectorCipher + Copy + Sync> Worker<C> {
+    ghost use Rattle.hotzone.specs.Laid.{IsSealed};
     ghost use Rattle.hotzone.specs.Making.{HasStepped, IsPut, MayMake, Makes};
     ghost use Rattle.hotzone.specs.declared.worker.NextCall.TheVariants.{Begin};
 
@@ -264,6 +269,8 @@ impl<C: SectorCipher + Copy + Sync> Worker<C> {
     ) -> Result<Stepped, ZoneFault>
         requires working { IsWorking C.sector self.old }
         requires room { HasRoom self.old.site scratch.old }
+        requires sealed { IsSealed
+            (seals_of C.sealed C.opened self.old.site.atom self.old.keys) self.old scratch.old }
         requires runs { self.old.halted ≡ None }
         requires next { IsDone self.old.next → ⊥ }
         requires sizes { HasSizes self.old.loaded.valid.sizes (D.device disk.old) }
@@ -271,6 +278,8 @@ impl<C: SectorCipher + Copy + Sync> Worker<C> {
             (seals_of C.sealed C.opened self.old.site.atom self.old.keys) (D.device disk.old)
             (D.device disk.new) self.old self.new result }
         ensures room { HasRoom self.new.site scratch.new }
+        ensures sealed { IsSealed
+            (seals_of C.sealed C.opened self.new.site.atom self.new.keys) self.new scratch.new }
     {
         self.loaded.valid().is_sound();
         let call = self.take_next();
@@ -322,22 +331,42 @@ impl<C: SectorCipher + Copy + Sync> Worker<C> {
     ) -> Made
         requires may { MayMake C.sector self.old (D.device disk.old) call }
         requires room { HasRoom self.old.site scratch.old }
+        requires sealed { IsSealed
+            (seals_of C.sealed C.opened self.old.site.atom self.old.keys) self.old scratch.old }
         ensures makes { Makes (seals_of C.sealed C.opened self.old.site.atom self.old.keys)
             (D.device disk.old) (D.device disk.new) self.old call self.new result }
         ensures scratch { IsAsLong scratch.old scratch.new }
+        ensures sealed { IsSealed
+            (seals_of C.sealed C.opened self.new.site.atom self.new.keys) self.new scratch.new }
     {
         match call {
             NextCall::Begin => self.begin(disk),
-            NextCall::ReadFirst => self.read_first(alloc, disk),
+            NextCall::ReadFirst => {
+                scratch.is_first = false;
+                self.read_first(alloc, disk)
+            }
             NextCall::SaveFirst => self.save_first(rt, alloc, scratch, disk),
-            NextCall::Read { done, headers } => self.read(alloc, done, headers, disk),
+            NextCall::Read { done, headers } => {
+                scratch.is_first = false;
+                self.read(alloc, done, headers, disk)
+            }
             NextCall::Save { done, headers } => self.save(rt, scratch, done, headers, disk),
             NextCall::Keep(headers) => self.keep(headers, disk),
             NextCall::Open(headers) => self.open(headers, disk),
-            NextCall::ReadAgain { done, headers } => self.read_again(alloc, done, headers, disk),
-            NextCall::Write { done, headers } => self.write(rt, done, headers, disk),
+            NextCall::ReadAgain { done, headers } => {
+                scratch.is_first = false;
+                self.read_again(alloc, done, headers, disk)
+            }
+            NextCall::Write { done, headers } => {
+                let made = self.write(rt, scratch, done, headers, disk);
+                scratch.is_first = false;
+                made
+            }
             NextCall::Settle(headers) => self.settle(headers, disk),
-            NextCall::Move(headers) => self.turn(headers, disk),
+            NextCall::Move(headers) => {
+                scratch.is_first = false;
+                self.turn(headers, disk)
+            }
             NextCall::Finish => self.finish(alloc, disk),
             NextCall::End(ending) => self.end(ending, disk),
             NextCall::Wipe { done, ending } => self.wipe(done, ending, disk),

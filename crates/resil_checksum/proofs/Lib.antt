@@ -1,2 +1,3 @@
 mod RoomLemmas
 mod DigestLemmas
+mod ClashLemmas

@@ -1,5 +1,5 @@
 -- When a digest tells a block's old atom from its new one.
-use Rattle.std.specs.Prelude.{ℕ, ◌≡◌, ◌≢◌, ◌*◌, ◌<◌, ◌≤◌, min, List}
+use Rattle.std.specs.Prelude.{ℕ, ◌≡◌, ◌≢◌, ◌<◌, List}
 use Rattle.sector_disk.specs.DiskViews.Parts.{block_at}
 use Rattle.sha2.specs.Sha256.{sha256}
 
@@ -8,23 +8,8 @@ abbrev pub AllDiffer : ℕ → ℕ → List ℕ → List ℕ → Type 0
 AllDiffer atom blocks old new =
     (i : ℕ) → i < blocks → sha256 (block_at atom old i) ≢ sha256 (block_at atom new i)
 
--- ... so has each from one block to another
-abbrev pub AllDifferIn : ℕ → ℕ → ℕ → List ℕ → List ℕ → Type 0
-AllDifferIn atom from to old new =
-    (i : ℕ) → from ≤ i → i < to → sha256 (block_at atom old i) ≢ sha256 (block_at atom new i)
-
 -- of so many blocks it is the first one whose old atom and new one have the same digest
 pub record IsLowestClash (atom blocks : ℕ) (old new : List ℕ) (block : ℕ) : Type 0 where
   pub within : block < blocks
   pub same : sha256 (block_at atom old block) ≡ sha256 (block_at atom new block)
   pub lowest : AllDiffer atom block old new
-
--- ... so it is among those from one block to another
-pub record IsFirstClash (atom from to : ℕ) (old new : List ℕ) (block : ℕ) : Type 0 where
-  pub within : (from ≤ block) × (block < to)
-  pub same : sha256 (block_at atom old block) ≡ sha256 (block_at atom new block)
-  pub first : AllDifferIn atom from block old new
-
--- the first block of a part, where parts have so many blocks
-abbrev pub part_start : ℕ → ℕ → ℕ → ℕ
-part_start blocks run part = min blocks (part * run)

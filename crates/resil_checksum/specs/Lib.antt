@@ -1,3 +1,4 @@
 pub mod Digests
 pub mod Clashes
+pub mod Comparing
 pub mod Promises

@@ -1,10 +1,12 @@
 // What digests tell of atoms.
 
-ghost use Rattle.std.specs.Prelude.{◌≡◌, ◌≢◌, ◌+◌, ◌*◌, ◌/◌, ◌%◌, ◌<◌, ◌≤◌, ◌↔◌, length};
+ghost use Rattle.std.specs.Prelude.{ℕ, ◌≡◌, ◌≢◌, ◌+◌, ◌*◌, ◌/◌, ◌%◌, ◌<◌, ◌≤◌, ◌↔◌, List, length};
 ghost use Rattle.std.specs.Prelude.{MatchOption};
 ghost use Rattle.sha2.specs.Sha256.{sha256};
-ghost use Rattle.resil_checksum.specs.Clashes.{AllDiffer, AllDifferIn, IsFirstClash};
-ghost use Rattle.resil_checksum.specs.Clashes.{IsLowestClash, part_start};
+ghost use Rattle.resil_checksum.specs.Clashes.{AllDiffer, IsLowestClash};
+ghost use Rattle.resil_checksum.specs.Comparing.{AllDifferIn, IsFirstClash, digest_in, part_start};
+ghost use Rattle.resil_checksum.specs.Comparing.{unit_of};
+ghost use Rattle.resil_checksum.specs.Digests.{AreDigests};
 ghost use Rattle.resil_checksum.specs.Promises.{AtomsTold};
 
 use crate::parts::part_of;
@@ -26,17 +28,53 @@ pub fn judge(own: &[u8], saved: &[u8]) -> Judged
     }
 }
 
+/// What is at hand of a zone's old atoms.
+#[derive(Clone, Copy)]
+pub(crate) enum AtHand {
+    /// They themselves, one behind the other.
+    Atoms,
+    /// Their digests, of 32 bytes each.
+    Digests,
+}
+
+/// The digest of a block's old atom.
+fn digest_at(at_hand: AtHand, old: &[u8], atom: u32, block: usize) -> [u8; 32]
+    requires { block * unit_of at_hand atom + unit_of at_hand atom ≤ length old.now }
+    ensures { result ≡ digest_in at_hand atom old.now block }
+{
+    match at_hand {
+        AtHand::Atoms => {
+            let size = atom as usize;
+            let at = block * size;
+            Sha256::digest(&old[at..at + size])
+        }
+        AtHand::Digests => {
+            let at = block * 32;
+            let mut digest = [0; 32];
+            digest.copy_from_slice(&old[at..at + 32]);
+            digest
+        }
+    }
+}
+
 /// The lowest of the blocks from one to another whose old atom and new one have the same digest.
-fn first_clash(old: &[u8], new: &[u8], atom: u32, from: usize, to: usize) -> Option<u64>
-    requires within { to * atom ≤ length old.now }
-    requires equal { length new.now ≡ length old.now }
-    ensures { MatchOption result (AllDifferIn atom from to old.now new.now)
-        (IsFirstClash atom from to old.now new.now) }
+fn first_clash(
+    at_hand: AtHand,
+    old: &[u8],
+    new: &[u8],
+    atom: u32,
+    from: usize,
+    to: usize,
+) -> Option<u64>
+    requires old { to * unit_of at_hand atom ≤ length old.now }
+    requires new { to * atom ≤ length new.now }
+    ensures { MatchOption result (AllDifferIn at_hand atom from to old.now new.now)
+        (IsFirstClash at_hand atom from to old.now new.now) }
 {
     let size = atom as usize;
     for i in from..to {
         let at = i * size;
-        if Sha256::digest(&old[at..at + size]) == Sha256::digest(&new[at..at + size]) {
+        if digest_at(at_hand, old, atom, i) == Sha256::digest(&new[at..at + size]) {
             return Some(i as u64);
         }
     }
@@ -44,19 +82,61 @@ fn first_clash(old: &[u8], new: &[u8], atom: u32, from: usize, to: usize) -> Opt
 }
 
 /// So among the blocks of one of the parts, which have so many blocks each.
-fn clash_in(old: &[u8], new: &[u8], atom: u32, run: usize, part: usize) -> Option<u64>
+fn clash_in(
+    at_hand: AtHand,
+    old: &[u8],
+    new: &[u8],
+    atom: u32,
+    run: usize,
+    part: usize,
+) -> Option<u64>
     requires some { 0 < atom }
-    requires equal { length new.now ≡ length old.now }
+    requires enough { length new.now / atom * unit_of at_hand atom ≤ length old.now }
     ensures { MatchOption result
-        (AllDifferIn atom (part_start (length old.now / atom) run part)
-        (part_start (length old.now / atom) run (part + 1)) old.now new.now)
-        (IsFirstClash atom (part_start (length old.now / atom) run part)
-        (part_start (length old.now / atom) run (part + 1)) old.now new.now) }
+        (AllDifferIn at_hand atom (part_start (length new.now / atom) run part)
+        (part_start (length new.now / atom) run (part + 1)) old.now new.now)
+        (IsFirstClash at_hand atom (part_start (length new.now / atom) run part)
+        (part_start (length new.now / atom) run (part + 1)) old.now new.now) }
 {
-    let blocks = old.len() / atom as usize;
+    let blocks = new.len() / atom as usize;
     let start = part.saturating_mul(run);
     let end = start.saturating_add(run);
-    first_clash(old, new, atom, start.min(blocks), end.min(blocks))
+    first_clash(at_hand, old, new, atom, start.min(blocks), end.min(blocks))
+}
+
+/// So among all of them, which are cut into at most so many parts.
+fn find_clash<R: Threads + Sync>(
+    rt: &R,
+    at_hand: AtHand,
+    old: &[u8],
+    new: &[u8],
+    atom: u32,
+    parts: usize,
+) -> Option<u64>
+    requires some { 0 < atom }
+    requires enough { length new.now / atom * unit_of at_hand atom ≤ length old.now }
+    requires parts { (0 < parts) × (parts ≤ 16) }
+    ensures { MatchOption result
+        (AllDifferIn at_hand atom 0 (length new.now / atom) old.now new.now)
+        (IsFirstClash at_hand atom 0 (length new.now / atom) old.now new.now) }
+{
+    let run = part_of(new.len() / atom as usize, parts);
+    let look = move |part: usize, found: &mut Option<u64>|
+        requires { (0 < atom) × (length new.now / atom * unit_of at_hand atom ≤ length old.now) }
+        ensures { MatchOption found.exit.now
+            (AllDifferIn at_hand atom (part_start (length new.entry.now / atom) run part)
+            (part_start (length new.entry.now / atom) run (part + 1)) old.entry.now new.entry.now)
+            (IsFirstClash at_hand atom (part_start (length new.entry.now / atom) run part)
+            (part_start (length new.entry.now / atom) run (part + 1)) old.entry.now new.entry.now) }
+    { *found = clash_in(at_hand, old, new, atom, run, part) };
+    let mut found = [None; 16];
+    thread::for_each_mut(rt, &mut found[..parts], parts, &look);
+    for part in 0..parts {
+        if found[part].is_some() {
+            return found[part];
+        }
+    }
+    None
 }
 
 /// The lowest of a zone's blocks, counted from 0, whose old atom and new one have the same digest,
@@ -78,23 +158,27 @@ pub fn clash<R: Threads + Sync>(
     ensures { MatchOption result (AllDiffer atom (length old.now / atom) old.now new.now)
         (IsLowestClash atom (length old.now / atom) old.now new.now) }
 {
-    let run = part_of(old.len() / atom as usize, parts);
-    let look = move |part: usize, found: &mut Option<u64>|
-        requires { (0 < atom) × (length new.now ≡ length old.now) }
-        ensures { MatchOption found.exit.now
-            (AllDifferIn atom (part_start (length old.entry.now / atom) run part)
-            (part_start (length old.entry.now / atom) run (part + 1)) old.entry.now new.entry.now)
-            (IsFirstClash atom (part_start (length old.entry.now / atom) run part)
-            (part_start (length old.entry.now / atom) run (part + 1)) old.entry.now new.entry.now) }
-    { *found = clash_in(old, new, atom, run, part) };
-    let mut found = [None; 16];
-    thread::for_each_mut(rt, &mut found[..parts], parts, &look);
-    for part in 0..parts {
-        if found[part].is_some() {
-            return found[part];
-        }
-    }
-    None
+    find_clash(rt, AtHand::Atoms, old, new, atom, parts)
+}
+
+/// So by digests of the old atoms that are at hand, one of 32 bytes for each new atom in the order
+/// of the blocks; what stands behind them is not looked at. The new atoms are whole ones.
+pub fn clash_by<R: Threads + Sync>(
+    rt: &R,
+    digests: &[u8],
+    new: &[u8],
+    atom: u32,
+    parts: usize,
+) -> Option<u64>
+    requires some { 0 < atom }
+    requires whole { length new.now % atom ≡ 0 }
+    requires enough { length new.now / atom * 32 ≤ length digests.now }
+    requires parts { (0 < parts) × (parts ≤ 16) }
+    ensures { (old : List ℕ) → AreDigests atom (length new.now / atom) old digests.now
+        → MatchOption result (AllDiffer atom (length new.now / atom) old new.now)
+        (IsLowestClash atom (length new.now / atom) old new.now) }
+{
+    find_clash(rt, AtHand::Digests, digests, new, atom, parts)
 }
 
 /// A law, with nothing to run: where digests were saved and none clashes, an atom that is a block's

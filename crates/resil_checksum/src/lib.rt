@@ -5,9 +5,10 @@
 //! place is still the old one; so a zone is begun only where no new atom has its old one's digest.
 //!
 //! The layer above may rely on [`save`], whose bytes are the digests in the order of the blocks, on
-//! [`clash`], on [`judge`], whose answers [`atoms_are_told`] says to be right, and on [`capacity`]
-//! and [`saved_len`], which [`fills_capacity`] ties to each other. [`save`] and [`clash`] have
-//! threads take parts of the work. No call takes memory.
+//! [`clash`], which compares atoms, and on [`clash_by`], which has the old ones' digests, on
+//! [`judge`], whose answers [`atoms_are_told`] says to be right, and on [`capacity`] and
+//! [`saved_len`], which [`fills_capacity`] ties to each other. [`save`], [`clash`] and [`clash_by`]
+//! have threads take parts of the work. No call takes memory.
 #![tactic(auto)]
 
 mod digests;
@@ -15,4 +16,4 @@ mod judging;
 mod parts;
 
 pub use digests::{capacity, fills_capacity, save, saved_len};
-pub use judging::{atoms_are_told, clash, judge};
+pub use judging::{atoms_are_told, clash, clash_by, judge};

@@ -1,11 +1,12 @@
 // A volume as the machine of a cell.
 
-ghost use Rattle.std.specs.Prelude.{◌≡◌, [], IsSome};
+ghost use Rattle.std.specs.Prelude.{◌≡◌, ◌&&◌, [], IsSome, is_none, is_some};
 ghost use Rattle.base_terms.specs.declared.disk_sizes.Sizes.{Sizes};
 ghost use Rattle.shared_volume.specs.Ciphers.{opened, sealed};
 ghost use Rattle.shared_volume.specs.Histories.{MayBeShared, StandsFor};
 ghost use Rattle.volume_core.specs.Zones.{IsReadBy, worked_of};
 ghost use Rattle.volume_machine.specs.Seals.{seals_of};
+ghost use Rattle.volume_machine.specs.States.{open_at};
 ghost use Rattle.volume_machine.specs.WorkSteps.{WorkStep};
 ghost use Rattle.volume_core.specs.WorkerLoop.Telling.{converted_in};
 ghost use Rattle.zone_events.specs.Readings.{reading_of};
@@ -125,6 +126,8 @@ fn make_step<R: Threads + Wait + Sync, D: Disk>(
     ensures read { (sizes : Sizes) → IsReadBy sizes volume.old → IsReadBy sizes volume.new }
     ensures armed { IsSome volume.new.work }
     ensures converted { result.converted ≡ converted_in volume.new.map }
+    ensures has_left { result.has_left ≡ (is_some (open_at volume.old.lanes lane)
+        && is_none (open_at volume.new.lanes lane)) }
 {
     let had = volume.operation(lane).is_some();
     let worked = volume.work(rt, alloc);

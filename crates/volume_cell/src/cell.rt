@@ -48,8 +48,11 @@ const LOOKS: u32 = 100;
 /// How often a thread is woken in vain before it asks that the machine be left to those that slept.
 const VAIN_WAKES: u32 = 2;
 
-/// How many microseconds a thread gives way behind a long turn; the system adds some more.
+/// How many microseconds a thread gives way at once behind a long turn; the system adds some more.
 const GRACE: u64 = 100;
+
+/// How often it does so at most, while others sleep.
+const GRACES: u32 = 5;
 
 /// A machine under many threads.
 pub type Cell<M> = Shared<
@@ -245,14 +248,19 @@ impl<M: Machine> Cell<M> {
         true
     }
 
-    /// Leaves the machine for a moment to a thread that was woken, unless another has it already. Who
-    /// asks for one long turn after the other would take it each time before that thread runs.
+    /// Leaves the machine for a moment to a thread that was woken, and so on while another may sleep.
+    /// Who asks for one long turn after the other would take it each time before that thread runs. It
+    /// sleeps on a word for which nobody is woken and leaves the mark alone, so it takes no wake of
+    /// another.
     fn give_way<R: Wait>(&self, rt: &R) {
         let shared = &self.table.shared;
-        let word = shared.peek(ENTRIES);
-        if word % 2 == 0 {
-            let grace = Duration::from_micros(GRACE);
+        let grace = Duration::from_micros(GRACE);
+        for _ in 0..GRACES {
+            let word = shared.peek(ENTRIES);
             shared.park_timeout(rt, ENTRIES, (word % (1 << 32)) as u32, grace);
+            if shared.peek(MARK) == NOBODY {
+                return;
+            }
         }
     }
 

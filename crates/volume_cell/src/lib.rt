@@ -27,7 +27,8 @@
 //! back wakes one thread, and the next is woken once that one has had the machine or one more went
 //! to sleep. A thread that was woken twice in vain asks that the machine be left to those that
 //! slept; and whoever gives it back behind an event that takes long (`Machine::is_long`), and woke
-//! one, gives way to that for a moment. That a turn comes, in which order and when is not promised.
+//! one, gives way to that for a moment, and goes on so while others may sleep, five moments at most.
+//! That a turn comes, in which order and when is not promised.
 //!
 //! The rule of the cell has two parts, each a module of `specs/`: `Exclusion` says that one pass at
 //! a time has the machine and that no two passes share a name, `History` that there is one history

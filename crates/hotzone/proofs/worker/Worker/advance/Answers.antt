@@ -1,10 +1,13 @@
-use Rattle.std.proofs.Common.{subst}
+use Rattle.std.proofs.Common.{sym, subst}
 use Rattle.hotzone.proofs.AskLemmas.{may-make}
 use Rattle.hotzone.proofs.GuardLemmas.{room-later}
+use Rattle.hotzone.proofs.LaidLemmas.{sealed-put}
 use Rattle.hotzone.proofs.StepLemmas.{made-on, stepped-by}
 use Rattle.hotzone.proofs.WorkingLemmas.{known-atom}
+use Rattle.hotzone.specs.Laid.{IsSealed}
 use Rattle.luks_rules.specs.States.{IsSound}
 use Rattle.luks_rules.specs.declared.valid.Checked.{Checked}
+use Rattle.volume_machine.specs.Seals.{seals_of}
 use Rattle.hotzone.proofs.worker.Worker.advance.Goals as goal
 
 pub make-next-requires-clause-may : goal.make-next-requires-clause-may
@@ -34,3 +37,14 @@ returns-clause-room g c =
     room-later c.args.self.now.site _ c.args.scratch.now c.make-next.new.scratch
     (known-atom g.C.SectorCipher.sector c.args.self.now c.requires.working) stepped.site
     c.make-next.ensures.scratch c.requires.room
+
+pub make-next-requires-clause-sealed : goal.make-next-requires-clause-sealed
+make-next-requires-clause-sealed g c κs lives =
+    subst (λ w. IsSealed (seals_of g.C.SectorCipher.sealed g.C.SectorCipher.opened w.site.atom w.keys)
+    w c.args.scratch.now) (sym c.take_next-call.ensures.rest) c.requires.sealed
+
+pub returns-clause-sealed : goal.returns-clause-sealed
+returns-clause-sealed g c =
+    sealed-put (seals_of g.C.SectorCipher.sealed g.C.SectorCipher.opened) c.make-next.new.self _
+    c.make-next.result.next c.make-next.result.answer _ c.make-next.new.scratch
+    c.put_answer.ensures c.make-next.ensures.sealed

@@ -1,4 +1,5 @@
 use Rattle.std.proofs.Common.{◌+◌, sym, subst}
+use Rattle.hotzone.specs.Laid.{AreLaidBy}
 use Rattle.hotzone.specs.Sites.{part_at}
 use Rattle.hotzone.specs.Steps.{TellsBy, part_in, resealed}
 use Rattle.hotzone.specs.Workers.{HasRoomBy}
@@ -17,3 +18,19 @@ returns-in-Journal-clause-finds g c =
     (resealed (seals_of g.C.SectorCipher.sealed g.C.SectorCipher.opened c.args.self.now.site.atom
     c.args.self.now.keys) (c.args.self.now.site.blocks.start + c.args.done)
     (part_in c.args.self.now c.args.done))) (sym c.in-Journal.is) tt
+
+pub compare-requires-clause-digests : goal.compare-requires-clause-digests
+compare-requires-clause-digests g c κs within =
+    (subst (λ k. HasRoomBy k c.args.self.now.site c.args.scratch.now) c.in-Checksum.is
+    c.requires.room).1
+
+pub returns-in-Journal-clause-laid : goal.returns-in-Journal-clause-laid
+returns-in-Journal-clause-laid g c =
+    subst (λ k. AreLaidBy k c.args.self.now.site.atom (part_at c.args.self.now.site c.args.done)
+    (part_in c.args.self.now c.args.done) c.args.scratch.now.digests) (sym c.in-Journal.is) tt
+
+pub returns-in-Checksum-clause-laid : goal.returns-in-Checksum-clause-laid
+returns-in-Checksum-clause-laid g c =
+    subst (λ k. AreLaidBy k c.args.self.now.site.atom (part_at c.args.self.now.site c.args.done)
+    (part_in c.args.self.now c.args.done) c.compare.new.scratch.digests) (sym c.in-Checksum.is)
+    c.compare.ensures.laid

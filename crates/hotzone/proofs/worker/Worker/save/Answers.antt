@@ -1,4 +1,4 @@
-use Rattle.hotzone.proofs.CompareLemmas.{clash-later, long-on}
+use Rattle.hotzone.proofs.CompareLemmas.{clash-later}
 use Rattle.std.proofs.Common.{refl}
 use Rattle.hotzone.proofs.worker.Worker.save.Goals as goal
 
@@ -7,7 +7,3 @@ returns-in-Some-clause-makes g c =
     rw c.give_up.ensures
     (clash-later _ _ _ c.args.self.now c.args.done c.args.headers c.in-Some.fault
     c.in-Some.ensures.finds refl)
-
-pub returns-in-None-clause-scratch : goal.returns-in-None-clause-scratch
-returns-in-None-clause-scratch g c =
-    long-on _ _ _ c.in-None.ensures.scratch c.save_told.ensures.scratch

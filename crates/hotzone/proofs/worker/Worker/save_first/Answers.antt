@@ -1,4 +1,4 @@
-use Rattle.hotzone.proofs.CompareLemmas.{clash-first, long-on}
+use Rattle.hotzone.proofs.CompareLemmas.{clash-first}
 use Rattle.std.proofs.Common.{refl}
 use Rattle.hotzone.proofs.worker.Worker.save_first.Goals as goal
 
@@ -6,7 +6,3 @@ pub returns-in-Some-clause-makes : goal.returns-in-Some-clause-makes
 returns-in-Some-clause-makes g c =
     rw c.give_up.ensures
     (clash-first _ _ _ c.args.self.now c.in-Some.fault c.in-Some.ensures.finds refl)
-
-pub returns-in-None-clause-scratch : goal.returns-in-None-clause-scratch
-returns-in-None-clause-scratch g c =
-    long-on _ _ _ c.in-None.ensures.scratch c.save_made.ensures.scratch

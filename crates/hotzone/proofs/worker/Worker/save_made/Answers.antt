@@ -3,8 +3,8 @@ use Rattle.hotzone.specs.Headings.{IsToCome, IsUnmade}
 use Rattle.hotzone.specs.Steps.{refuses}
 use Rattle.hotzone.proofs.worker.Worker.save_made.Goals as goal
 
-pub returns-in-Err-clause-makes : goal.returns-in-Err-clause-makes
-returns-in-Err-clause-makes g c =
+pub returns-in-Err : goal.returns-in-Err
+returns-in-Err g c =
     let before = c.args.self.now.loaded in
     rw c.give_up.ensures
     (refuses _ refl c.requires.tells

@@ -1,0 +1,33 @@
+-- What is made of a part at hand before it is saved: its digests, and it sealed anew.
+use Rattle.std.specs.Prelude.{ℕ, ◌≡◌, ◌+◌, ◌≤◌, List, length, take, MatchBool}
+use Rattle.hotzone.specs.Sites.{bytes_at, part_at}
+use Rattle.hotzone.specs.Steps.{part_in, resealed}
+use Rattle.hotzone.specs.declared.scratch.Scratch.{Scratch}
+use Rattle.hotzone.specs.declared.site.Guard.{Guard}
+use Rattle.hotzone.specs.declared.site.Guard.TheVariants as guards
+use Rattle.hotzone.specs.declared.site.Site.{Site}
+use Rattle.hotzone.specs.declared.worker.Worker.{Worker}
+use Rattle.resil_checksum.specs.Digests.{AreSaved, saved_len}
+use Rattle.volume_machine.specs.Seals.{Seals}
+
+-- by checksum the digests of its atoms, as they are saved
+abbrev pub AreLaidBy : Guard → ℕ → ℕ → List ℕ → List ℕ → Type 0
+AreLaidBy guards.Journal atom count part digests = Unit {0}
+AreLaidBy guards.Checksum atom count part digests =
+    AreSaved atom count part (take (saved_len count atom) digests)
+
+abbrev pub AreLaid : {C : Type 0} → Worker C → ℕ → Scratch → Type 0
+AreLaid worker done scratch =
+    AreLaidBy worker.site.guard worker.site.atom (part_at worker.site done) (part_in worker done)
+    scratch.digests
+
+-- bytes begin with the zone's first part sealed anew
+pub record HasSealed (seals : Seals) (site : Site) (part sealed : List ℕ) : Type 0 where
+  pub room : bytes_at site 0 ≤ length sealed
+  pub is : take (bytes_at site 0) sealed ≡ resealed seals (site.blocks.start + 0) part
+
+-- so where it is said to be, and that part is at hand
+abbrev pub IsSealed : {C : Type 0} → Seals → Worker C → Scratch → Type 0
+IsSealed seals worker scratch =
+    MatchBool scratch.is_first (HasSealed seals worker.site (part_in worker 0) scratch.sealed)
+    (Unit {0})
