@@ -1,3 +1,4 @@
+pub mod Clients
 pub mod Doors
 pub mod Shares
 pub mod Untold

@@ -1,114 +1,63 @@
 // The bytes of a client, and how long they are waited for.
 
-ghost use Rattle.std.specs.Prelude.{◌≡◌};
-ghost use Rattle.std.specs.Io.Buffered.{reader_buffer};
+ghost use Rattle.std.specs.Prelude.{◌≡◌, ◌≤◌, IfOk, length, option_map};
+ghost use Rattle.host_edge.specs.Clients.{ReadsInTime, settled};
 
-use crate::streams::HostReader;
+use crate::streams::Patient;
+use crate::watch::Watch;
 use io_edge::InputStream;
-use std::io::{self, BufReader, ErrorKind, Read, Stderr};
-use std::net::SocketAddr;
-use std::time::{Clock, Duration, Instant};
-
-/// How many milliseconds a client has for the whole negotiation.
-const NEGOTIATION: u64 = 30_000;
+use std::io::{self, ErrorKind};
+use std::time::{Clock, Duration};
 
 /// What a client's bytes are read from. A client that connects is dropped, as by a failed read,
 /// where it isn't through the negotiation within 30 seconds; and behind that where it says nothing
-/// for longer than it may. Both are said on standard error, with its address. The one client of the
-/// standard streams is waited for without an end, as is one whose address can't be had.
+/// for longer than it may. Both are said on standard error, with its address. One that isn't watched
+/// is waited for without an end.
 #[derive(Drop)]
-pub struct ClientStream<C: Clock + Copy + Drop> {
-    reader: BufReader<HostReader>,
+pub struct ClientStream<R: InputStream + Patient, C: Clock + Copy + Drop> {
+    reader: R,
     watch: Option<Watch<C>>,
 }
 
-/// How long a client is waited for, and since when.
-#[derive(Clone, Copy)]
-pub struct Watch<C: Clock + Copy> {
-    clock: C,
-    errors: Stderr,
-    peer: SocketAddr,
-    since: Instant,
-    idle_timeout: Option<u32>,
-    is_settled: bool,
-}
-
-impl<C: Clock + Copy> Watch<C> {
-    /// A watch on a client that has just connected.
-    pub fn new(
-        clock: C,
-        errors: Stderr,
-        peer: SocketAddr,
-        idle_timeout: Option<u32>,
-    ) -> io::Result<Watch<C>> {
-        Ok(Watch {
-            clock,
-            errors,
-            peer,
-            since: Instant::now(&clock)?,
-            idle_timeout,
-            is_settled: false,
-        })
-    }
-
-    /// How long the next bytes may take. A time that is over is a millisecond, since the system
-    /// takes none of no length.
-    fn patience(&self) -> Option<Duration> {
-        if self.is_settled {
-            return self
-                .idle_timeout
-                .map(|seconds| Duration::from_secs(u64::from(seconds)));
-        }
-        let gone = match self.since.elapsed(&self.clock) {
-            Ok(gone) => gone,
-            Err(_) => Duration::from_millis(0),
-        };
-        let left = Duration::from_millis(NEGOTIATION).saturating_sub(gone);
-        Some(left.max(Duration::from_millis(1)))
-    }
-
-    /// Says that the client is dropped.
-    fn tell(&self) {
-        let peer = self.peer;
-        let _ = match self.idle_timeout {
-            Some(seconds) if self.is_settled => {
-                eprintln!(self.errors; "reencd: {peer}: dropped, silent for {seconds} seconds")
-            }
-            _ => eprintln!(self.errors;
-                "reencd: {peer}: dropped, not through the negotiation within 30 seconds"
-            ),
-        };
-    }
-}
-
-impl<C: Clock + Copy + Drop> ClientStream<C> {
+impl<R: InputStream + Patient, C: Clock + Copy + Drop> ClientStream<R, C> {
     /// The bytes of this reader.
-    pub fn new(reader: BufReader<HostReader>, watch: Option<Watch<C>>) -> ClientStream<C>
+    pub fn new(reader: R, watch: Option<Watch<C>>) -> ClientStream<R, C>
         ensures reader { result.reader ≡ reader }
         ensures watch { result.watch ≡ watch }
     {
         ClientStream { reader, watch }
     }
-
-    /// Has the system wait for the next bytes only as long as they may take.
-    fn set_patience(&self) {
-        if let Some(watch) = &self.watch {
-            self.reader.get_ref().set_patience(watch.patience());
-        }
-    }
 }
 
-impl<C: Clock + Copy + Drop> InputStream for ClientStream<C> {
-    ghost reads = { λ _ _ _ _. Unit {0} };
+impl<R: InputStream + Patient, C: Clock + Copy + Drop> InputStream for ClientStream<R, C> {
+    ghost reads = { λ old buf answer new. ReadsInTime R.reads old.reader
+        (option_map (λ watch. watch.is_settled) old.watch) buf answer new.reader };
 
-    fn read_some(&mut self, buf: &mut [u8]) -> io::Result<usize> {
+    /// Reads on. Where the time for the negotiation is over, it fails by `TimedOut` without a read.
+    /// Until then a write may wait for half of what is left: one that the client took in part is made
+    /// once more.
+    fn read_some(&mut self, buf: &mut [u8]) -> io::Result<usize>
+        ensures within { IfOk result (λ n. n ≤ length buf.new) }
+        ensures reads { ReadsInTime R.reads self.old.reader
+            (option_map (λ watch. watch.is_settled) self.old.watch) buf.new result
+            self.new.reader }
+        ensures watch { self.new.watch ≡ self.old.watch }
+    {
         let Some(watch) = self.watch else {
-            return self.reader.read(buf);
+            return self.reader.read_some(buf);
         };
         if !watch.is_settled {
-            self.set_patience();
+            let left = watch.time_left();
+            if left == 0 {
+                watch.tell();
+                return Err(io::Error::from(ErrorKind::TimedOut));
+            }
+            self.reader.set_patience(
+                Some(Duration::from_millis(left)),
+                Some(Duration::from_millis(left - left / 2)),
+            );
         }
-        let done = self.reader.read(buf);
+        let done = self.reader.read_some(buf);
         if let Err(error) = &done
             && error.kind() == ErrorKind::WouldBlock
         {
@@ -117,10 +66,15 @@ impl<C: Clock + Copy + Drop> InputStream for ClientStream<C> {
         done
     }
 
-    fn settle(&mut self) {
+    /// From now on the client may be silent for as long as its watch says.
+    fn settle(&mut self)
+        ensures reader { self.new.reader ≡ self.old.reader }
+        ensures watch { self.new.watch ≡ settled self.old.watch }
+    {
         if let Some(watch) = &mut self.watch {
             watch.is_settled = true;
+            let idle = watch.idle_time();
+            self.reader.set_patience(idle, idle);
         }
-        self.set_patience();
     }
 }

@@ -1,19 +1,22 @@
 ghost use Rattle.std.specs.Prelude.{◌≡◌, ◌+◌, ◌^◌, ◌<◌, ◌⊎◌, [], None, Ok, Err, IfOk, IfErr};
-ghost use Rattle.std.specs.Prelude.{IfSome, IfNone, IsErr};
+ghost use Rattle.std.specs.Prelude.{IfSome, IfNone, IsErr, false};
 ghost use Rattle.std.specs.Io.Buffered.{reader_buffer, reader_inner};
 ghost use Rattle.std.specs.IoError.{error_kind};
 ghost use Rattle.std.specs.declared.io.Error.{Error};
 ghost use Rattle.base_terms.specs.Causes.{HasCause};
 ghost use Rattle.bays.specs.Stories.{CountsGiven, HasNoneAhead};
 ghost use Rattle.io_edge.specs.Faults.{Counts};
+ghost use Rattle.host_edge.specs.Clients.{MeetsNobody};
 ghost use Rattle.host_edge.specs.Doors.{MeetsAt};
 ghost use Rattle.host_edge.specs.Untold.{untold_link};
 
-use crate::client_stream::{ClientStream, Watch};
+use crate::client_stream::ClientStream;
+use crate::client_writer::ClientWriter;
 use crate::door::Door;
 use crate::network::{Listener, Network, passes};
 use crate::notices::{announce, complain};
 use crate::streams::{HostReader, HostWriter};
+use crate::watch::Watch;
 use base_terms::Failed;
 use bays::{Link, Manner};
 use io_edge::{GatheringWriter, StdSink, StdSource};
@@ -28,12 +31,12 @@ const ROOM: usize = 8192;
 
 /// The source of a connection. It reads ahead, so that a request and the beginning of its data come
 /// by one call of the system.
-pub type HostSource<C> = StdSource<ClientStream<C>>;
+pub type HostSource<C> = StdSource<ClientStream<BufReader<HostReader>, C>>;
 
 /// The sink of a connection. It holds short pieces back until they are pushed out or a long one
 /// follows, so that the head of a reply and its data leave together: a short piece is copied, a
 /// long one is not.
-pub type HostSink = StdSink<GatheringWriter<HostWriter>>;
+pub type HostSink = StdSink<GatheringWriter<ClientWriter<HostWriter>>>;
 
 /// How many milliseconds are waited at first, where the system wants descriptors or memory for a
 /// client, and at most.
@@ -45,11 +48,12 @@ const LONGEST_PAUSE: u64 = 5_000;
 fn connection<C: Clock + Copy + Drop>(
     alloc: Global,
     reader: HostReader,
-    writer: HostWriter,
+    writer: ClientWriter<HostWriter>,
     watch: Option<Watch<C>>,
 ) -> io::Result<(HostSource<C>, HostSink)>
     ensures reader { IfOk result (λ c. reader_inner c.0.inner.reader ≡ reader) }
     ensures writer { IfOk result (λ c. c.1.inner.writer ≡ writer) }
+    ensures watch { IfOk result (λ c. c.0.inner.watch ≡ watch) }
     ensures unread { IfOk result (λ c. reader_buffer c.0.inner.reader ≡ []) }
     ensures holds_nothing { IfOk result (λ c. c.1.inner.held.items ≡ []) }
     ensures err { IfErr result (λ e. error_kind e ≡ ErrorKind.OutOfMemory) }
@@ -113,11 +117,13 @@ impl<R: Network + Clock + Copy + Drop> HostLink<R> {
     /// The connection of the next client at the door.
     fn admit(&self) -> io::Result<(Option<SocketAddr>, (HostSource<R>, HostSink))>
         ensures met { IfOk result (λ given. MeetsAt R.Listener.meets self.now.door
-            (Ok (reader_inner given.1.0.inner.reader, given.1.1.inner.writer))) }
+            (Ok (reader_inner given.1.0.inner.reader, given.1.1.inner.writer.writer))) }
         ensures unread { IfOk result (λ given. reader_buffer given.1.0.inner.reader ≡ []) }
         ensures holds_nothing { IfOk result (λ given. given.1.1.inner.held.items ≡ []) }
-        ensures err { IfErr result (λ e. (error_kind e ≡ ErrorKind.OutOfMemory)
-            ⊎ MeetsAt R.Listener.meets self.now.door (Err e)) }
+        ensures watched { IfOk result (λ given. IfSome given.1.0.inner.watch
+            (λ watch. (watch.idle_timeout ≡ self.now.manner.idle_timeout)
+            × (watch.is_settled ≡ false))) }
+        ensures err { IfErr result (MeetsNobody R.Listener.meets self.now.door) }
     {
         let (reader, writer) = match self.door.meet() {
             Ok(ends) => ends,
@@ -125,6 +131,7 @@ impl<R: Network + Clock + Copy + Drop> HostLink<R> {
         };
         let peer = reader.peer();
         let watch = self.watch(peer);
+        let writer = ClientWriter::new(writer, self.errors, peer);
         match connection(self.alloc, reader, writer, watch) {
             Ok(connection) => Ok((peer, connection)),
             Err(error) => Err(error),
@@ -132,7 +139,10 @@ impl<R: Network + Clock + Copy + Drop> HostLink<R> {
     }
 
     /// A watch on a client of this address, where the clock can be read.
-    fn watch(&self, peer: Option<SocketAddr>) -> Option<Watch<R>> {
+    fn watch(&self, peer: Option<SocketAddr>) -> Option<Watch<R>>
+        ensures { IfSome result (λ watch. (watch.idle_timeout ≡ self.now.manner.idle_timeout)
+            × (watch.is_settled ≡ false)) }
+    {
         let Some(peer) = peer else {
             return None;
         };
@@ -143,11 +153,13 @@ impl<R: Network + Clock + Copy + Drop> HostLink<R> {
     /// descriptors or memory for it. That is said once.
     fn wait_for_client(&self) -> io::Result<(Option<SocketAddr>, (HostSource<R>, HostSink))>
         ensures met { IfOk result (λ given. MeetsAt R.Listener.meets self.now.door
-            (Ok (reader_inner given.1.0.inner.reader, given.1.1.inner.writer))) }
+            (Ok (reader_inner given.1.0.inner.reader, given.1.1.inner.writer.writer))) }
         ensures unread { IfOk result (λ given. reader_buffer given.1.0.inner.reader ≡ []) }
         ensures holds_nothing { IfOk result (λ given. given.1.1.inner.held.items ≡ []) }
-        ensures err { IfErr result (λ e. (error_kind e ≡ ErrorKind.OutOfMemory)
-            ⊎ MeetsAt R.Listener.meets self.now.door (Err e)) }
+        ensures watched { IfOk result (λ given. IfSome given.1.0.inner.watch
+            (λ watch. (watch.idle_timeout ≡ self.now.manner.idle_timeout)
+            × (watch.is_settled ≡ false))) }
+        ensures err { IfErr result (MeetsNobody R.Listener.meets self.now.door) }
     {
         let mut pause = FIRST_PAUSE;
         for turn in 0..u64::MAX {
@@ -193,8 +205,9 @@ impl<R: Network + Clock + Copy + Drop> Link for HostLink<R> {
 
     ghost state = { λ link. untold_link link.left link.lent link.faults };
 
-    /// The next client at the link's door. It fails only where that can't be had; where the system
-    /// wants descriptors or memory for it, it is waited for.
+    /// The next client at the link's door. It fails only where the system refuses one there. Where
+    /// descriptors or memory are wanted for a client, the next one is waited for, up to `2 ^ 64` times.
+    /// One that was met, but for whose connection memory was wanted, is turned away.
     fn next(&mut self) -> Result<Option<(Self::In, Self::Out)>, Failed>
         ensures ends { self.old.left ≡ 0 → result ≡ Ok None }
         ensures at_end { IfOk result (λ given. IfNone given
@@ -206,14 +219,17 @@ impl<R: Network + Clock + Copy + Drop> Link for HostLink<R> {
         ensures door { self.new.door ≡ self.old.door }
         ensures met { IfOk result (λ given. IfSome given
             (λ c. MeetsAt R.Listener.meets self.old.door
-            (Ok (reader_inner c.0.inner.reader, c.1.inner.writer)))) }
+            (Ok (reader_inner c.0.inner.reader, c.1.inner.writer.writer)))) }
         ensures unread { IfOk result (λ given. IfSome given
             (λ c. reader_buffer c.0.inner.reader ≡ [])) }
         ensures holds_nothing { IfOk result (λ given. IfSome given
             (λ c. c.1.inner.held.items ≡ [])) }
-        ensures refused { IsErr result → (error : Error)
-            × ((error_kind error ≡ ErrorKind.OutOfMemory)
-            ⊎ MeetsAt R.Listener.meets self.old.door (Err error)) }
+        ensures watched { IfOk result (λ given. IfSome given (λ c. IfSome c.0.inner.watch
+            (λ watch. (watch.idle_timeout ≡ self.old.manner.idle_timeout)
+            × (watch.is_settled ≡ false)))) }
+        ensures manner { self.new.manner ≡ self.old.manner }
+        ensures refused { IsErr result →
+            (error : Error) × MeetsNobody R.Listener.meets self.old.door error }
     {
         if self.left == 0 {
             return Ok(None);
@@ -240,6 +256,7 @@ impl<R: Network + Clock + Copy + Drop> Link for HostLink<R> {
         ensures lent { self.new.lent + 1 ≡ self.old.lent }
         ensures faults { self.new.faults ≡ self.old.faults }
         ensures door { self.new.door ≡ self.old.door }
+        ensures manner { self.new.manner ≡ self.old.manner }
     {
         self.tell("gone");
         self.lent -= 1;

@@ -7,6 +7,7 @@
 #![tactic(auto)]
 
 mod client_stream;
+mod client_writer;
 mod descriptors;
 mod door;
 mod host_bay;
@@ -16,8 +17,10 @@ mod network;
 mod notices;
 mod progress;
 mod streams;
+mod watch;
 
-pub use client_stream::{ClientStream, Watch};
+pub use client_stream::ClientStream;
+pub use client_writer::ClientWriter;
 pub use descriptors::keep_standard_streams;
 pub use door::Door;
 pub use host_bay::HostBay;
@@ -25,4 +28,5 @@ pub use host_file::HostFile;
 pub use host_link::{HostLink, HostSink, HostSource};
 pub use network::{Listener, Network, accept};
 pub use progress::{Course, ProgressGate, Told};
-pub use streams::{HostReader, HostWriter};
+pub use streams::{HangUp, HostReader, HostWriter, Patient};
+pub use watch::Watch;

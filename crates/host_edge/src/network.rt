@@ -1,5 +1,6 @@
-ghost use Rattle.std.specs.Prelude.{ℕ, List, Result};
+ghost use Rattle.std.specs.Prelude.{ℕ, ◌↔◌, List, Result, IsTrue};
 ghost use Rattle.std.specs.declared.io.Error.{Error};
+ghost use Rattle.host_edge.specs.Clients.{Passes};
 ghost use Rattle.host_edge.specs.declared.streams.HostReader.{HostReader};
 ghost use Rattle.host_edge.specs.declared.streams.HostWriter.{HostWriter};
 
@@ -79,15 +80,24 @@ pub fn accept<L: OpenListener>(listener: &L) -> io::Result<L::Stream> {
     Err(io::Error::from(ErrorKind::ConnectionAborted))
 }
 
-/// The numbers of the errors by which the system says that it wants memory, or descriptors, in all
-/// or for this program, or room for a socket (errno(3), Linux).
-const PASSING: [i32; 4] = [12, 23, 24, 105];
+/// The numbers of the errors by which the system says that it wants descriptors, in all or for this
+/// program, or room for a socket (errno(3), Linux). Want of memory has a kind of its own.
+const ENFILE: i32 = 23;
+
+const EMFILE: i32 = 24;
+
+const ENOBUFS: i32 = 105;
 
 /// Whether the system wants what it may have again later: memory, descriptors or room.
-pub(crate) fn passes(error: &io::Error) -> bool {
+pub(crate) fn passes(error: &io::Error) -> bool
+    ensures { IsTrue result ↔ Passes error.now }
+{
+    if error.kind() == ErrorKind::OutOfMemory {
+        return true;
+    }
     match error.raw_os_error() {
-        Some(number) => PASSING.contains(&number),
-        None => error.kind() == ErrorKind::OutOfMemory,
+        Some(number) => number == ENFILE || number == EMFILE || number == ENOBUFS,
+        None => false,
     }
 }
 

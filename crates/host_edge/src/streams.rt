@@ -1,7 +1,20 @@
 use io_edge::WritePair;
-use std::io::{self, IoSlice, Read, Stdin, Stdout, Write};
-use std::net::{SocketAddr, TcpStream};
+use std::io::{self, BufReader, IoSlice, Read, Stdin, Stdout, Write};
+use std::net::{Shutdown, SocketAddr, TcpStream};
 use std::time::Duration;
+
+/// A stream of a connection, at which the system can be told how long to wait for the other side.
+pub trait Patient {
+    /// Has each read and each write of the connection wait so long at most, or without an end.
+    /// Where the system refuses that, it waits as before.
+    fn set_patience(&self, reads: Option<Duration>, writes: Option<Duration>);
+}
+
+/// A stream of a connection that can be ended for both sides.
+pub trait HangUp {
+    /// Ends the connection: nothing more is read from it or written to it.
+    fn hang_up(&self);
+}
 
 /// What a connection is read from.
 #[derive(Drop)]
@@ -18,13 +31,22 @@ impl HostReader {
             HostReader::Socket(stream) => stream.peer_addr().ok(),
         }
     }
+}
 
-    /// Has each read of a socket wait so long at most, or without an end. Where the system refuses
-    /// that, it waits as before.
-    pub fn set_patience(&self, patience: Option<Duration>) {
+/// Both ends of a socket are one to the system, so the times are set for its writes too. The standard
+/// streams wait without an end.
+impl Patient for HostReader {
+    fn set_patience(&self, reads: Option<Duration>, writes: Option<Duration>) {
         if let HostReader::Socket(stream) = self {
-            let _ = stream.set_read_timeout(patience);
+            let _ = stream.set_read_timeout(reads);
+            let _ = stream.set_write_timeout(writes);
         }
+    }
+}
+
+impl Patient for BufReader<HostReader> {
+    fn set_patience(&self, reads: Option<Duration>, writes: Option<Duration>) {
+        self.get_ref().set_patience(reads, writes);
     }
 }
 
@@ -42,6 +64,15 @@ impl Read for HostReader {
 pub enum HostWriter {
     Standard(Stdout),
     Socket(TcpStream),
+}
+
+/// The standard streams are left as they are.
+impl HangUp for HostWriter {
+    fn hang_up(&self) {
+        if let HostWriter::Socket(stream) = self {
+            let _ = stream.shutdown(Shutdown::Both);
+        }
+    }
 }
 
 impl WritePair for HostWriter {
