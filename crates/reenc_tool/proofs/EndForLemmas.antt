@@ -10,10 +10,11 @@ use Rattle.header_report.specs.Examinations.{sizes_alone}
 use Rattle.hotzone.specs.Sites.{IsSaved}
 use Rattle.luks_store.specs.declared.loaded.Stored.{Stored}
 use Rattle.reenc_recovery.specs.Images.{StandsFor}
-use Rattle.reenc_tool.proofs.AgainForLemmas.{ForLaws, up-for}
-use Rattle.reenc_tool.proofs.MidwayLemmas.{MidwayLaws, behind, has-work, holds-newest, known-before}
+use Rattle.reenc_tool.proofs.AgainForLemmas.{ForLaws, again-for, up-for}
+use Rattle.reenc_tool.proofs.MidwayLemmas.{MidwayLaws, behind, front-deeds, has-work, holds-newest}
+use Rattle.reenc_tool.proofs.MidwayLemmas.{known-before}
 use Rattle.reenc_tool.proofs.MidwayLemmas.{led-to-end, none-under-way, one-disk}
-use Rattle.reenc_tool.specs.Beside.{HasServedConverting}
+use Rattle.reenc_tool.specs.Beside.{HasServedConverting, IsServedAlone}
 use Rattle.reenc_tool.specs.KeptBeside.{StandsAtEndBeside}
 use Rattle.reenc_tool.specs.Outcomes.{Coming, Outcome}
 use Rattle.reenc_tool.specs.Runs.{VolumeKeys}
@@ -28,7 +29,7 @@ use Rattle.sector_cipher.specs.declared.disk.DiskCipher.{DiskCipher}
 use Rattle.sector_disk.specs.Devices.{Device}
 use Rattle.sector_disk.specs.Geometry.{IsDisk}
 use Rattle.volume_machine.specs.Answers.{untagged}
-use Rattle.volume_machine.specs.Deeds.{state_after}
+use Rattle.volume_machine.specs.Deeds.{AreDeeds, Deed, state_after}
 use Rattle.volume_machine.specs.States.{IsClient, State, open_at}
 use Rattle.volume_opening.specs.Openings.{alone}
 use Rattle.zone_events.specs.Readings.{reading_of}
@@ -99,12 +100,20 @@ module _ {sector : DiskCipher Aes → ℕ} {sealed opened : DiskCipher Aes → �
   pub ran-midway : (converts : Bool)
       → RanAs device state converts volume (volume_seals sealed opened volume) begun outcome
       → RanMidway device state disk taken converts begun outcome
-  ran-midway false ran = record {
-    left = ran.left;
-    came = ran.came;
-    served = ⊎_elim (λ alone. alone.1) (λ led. absurd (false-true led.0)) ran.served;
-    back = ran.back;
-  }
+  ran-midway false ran =
+      let seals = volume_seals sealed opened volume in
+      let alone : IsServedAlone state volume seals ran.left begun ran.came =
+      ⊎_elim (λ alone. alone.1) (λ led. absurd (false-true led.0)) ran.served in
+      let whole = alone.1 here (λ some. taken.is_read) in
+      record {
+        over = record { left = ran.left; came = ran.came; served = alone.0; back = ran.back };
+        whole = whole;
+        again = λ first content told stands earlier later parts exchanges.
+            again-for laws passes (device disk) pass lanes volume taken geometry first content told stands
+            earlier exchanges (front-deeds (reading_of here) seals volume earlier later
+            (subst (λ (d : List (Deed VolumeKeys)). AreDeeds (reading_of here) seals volume d) parts
+            whole.did.are));
+      }
   ran-midway true ran =
       let sizes = sizes_alone (device disk) in
       let served : HasServedConverting state sizes volume (volume_seals sealed opened volume)

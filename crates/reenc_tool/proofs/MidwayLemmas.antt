@@ -62,7 +62,7 @@ pub record MidwayLaws {C : Type 0} (sector : C → ℕ) (sealed opened : C → �
       → AreExchanges (answered_over seals old no_plain deeds) (untagged history)
   pub reader : (sizes : Sizes) → IsReader (reading_of sizes).reader
 
-front-deeds : {K : Type 0} (reading : Reading) (seals : Seals) (old : State K)
+pub front-deeds : {K : Type 0} (reading : Reading) (seals : Seals) (old : State K)
     (earlier later : List (Deed K)) → AreDeeds reading seals old (earlier ++ later)
     → AreDeeds reading seals old earlier
 unfolding AreDeeds

@@ -249,7 +249,7 @@ pub served_alone : {L : Type 0} (state : L → LinkState) (converts : Bool) (sta
     IsServedAs state converts start seals left begun came →
     HasServed state start seals left begun came
 served_alone state converts start seals left begun came fresh served =
-    ⊎_elim (λ alone. served_as_it_is state start seals left begun came fresh alone.1)
+    ⊎_elim (λ alone. served_as_it_is state start seals left begun came fresh alone.1.0)
     (λ led. absurd (no-work start fresh led.1)) served
 
 pub ran_as_it_is : {D L : Type 0} (device : D → Device) (state : L → LinkState) (converts : Bool)

@@ -6,12 +6,13 @@ use Rattle.std.proofs.lemmas.List.{length-map}
 use Rattle.aes_core.specs.declared.cipher.Aes.{Aes}
 use Rattle.base_terms.specs.Causes.{Rose}
 use Rattle.bays.specs.Stories.{LinkState}
-use Rattle.block_server.specs.Serving.{HasServedBeside as IsServedBeside}
+use Rattle.block_server.specs.Serving.{HasServedBeside as IsServedBeside, KnowsDeeds}
 use Rattle.block_server.specs.declared.link.Standing.{Standing}
 use Rattle.block_server.specs.declared.link.Standing.TheVariants.{Live}
 use Rattle.plain_disk.specs.Plain.{Block, Exchange}
 use Rattle.reenc_tool.proofs.PlayedLemmas.{no_link_failed, spent-full}
 use Rattle.reenc_tool.proofs.QuietLemmas.{IsQuiet, tells-without}
+use Rattle.reenc_tool.specs.Beside.{IsServedAlone}
 use Rattle.reenc_tool.specs.Outcomes.{Coming}
 use Rattle.reenc_tool.specs.Runs.{HasServed, KnowsRun, VolumeKeys}
 use Rattle.reenc_tool.specs.Sessions.{HavePlayed, cause_of, has_spent, most_events}
@@ -25,6 +26,8 @@ use Rattle.recovery_laws.specs.Served.Serving.{ClientsLeaveWork}
 use Rattle.shared_volume.specs.Ciphers.{Context}
 use Rattle.shared_volume.specs.Histories.{Tells}
 use Rattle.shared_volume.specs.Lanes.{Knowing}
+use Rattle.volume_laws.specs.BesideLanes.Executing.{ExecutesBeside}
+use Rattle.volume_laws.specs.BesideLanes.Lanes.{deeds_of}
 use Rattle.volume_laws.specs.Executing.{BreaksByFaults, Executes, ServesWithoutFaults, StopsAlong}
 use Rattle.volume_laws.specs.Executing.{TellsRun}
 use Rattle.volume_laws.specs.Promises.{DeviceErrorsAreExact, GoesByEvents, PlacesAreExact}
@@ -36,6 +39,7 @@ use Rattle.volume_machine.specs.Runs.{Happening, IsRun, answered_in, last_of, no
 use Rattle.volume_machine.specs.Seals.{AreLawful, Seals}
 use Rattle.volume_machine.specs.Sound.{IsSound}
 use Rattle.volume_machine.specs.States.{State}
+use Rattle.zone_events.specs.Readings.{reading_of}
 
 -- what was found of sessions that came so, whose links stand so, beside a worker that ended so
 pub record AreFound {L : Type 0} (state : L → LinkState) (final : State VolumeKeys)
@@ -136,12 +140,12 @@ module _ {L : Type 0} (state : L → LinkState) (left : Device) (begun : List L)
 
     pub served_of : VolumeLaws (without_work volume) seals run → IsSound (without_work volume)
         → IsFresh (without_work volume) → AreLawful volume.map.atom seals → left ≡ final.disk
-        → HasServed state (without_work volume) seals left begun came
+        → IsServedAlone state volume seals left begun came
     served_of laws sound fresh lawful left_is =
         let start = without_work volume in
         let end = without_work final in
         let answered = laws.answers end s.operations did in
-        record {
+        let served : HasServed state (without_work volume) seals left begun came = record {
           final = end;
           run = run;
           told = told;
@@ -186,4 +190,17 @@ module _ {L : Type 0} (state : L → LinkState) (left : Device) (begun : List L)
                     ∙ ap (λ f. cause_of false final.disk.faults None false f found.faults
                     came.memory) calm),
               );
-        }
+        } in (
+          served,
+          λ sizes read. record {
+            run = q.run;
+            run_is = refl;
+            final = final;
+            final_is = refl;
+            did = subst (λ (d : List (Deed VolumeKeys)). ExecutesBeside (reading_of sizes) seals volume
+                final d s.operations) q.deeds_are (s.did sizes read);
+            told = subst (λ (p : Option (Knowing Context)). IsSomeAnd p
+                (λ (pass : Knowing Context). KnowsDeeds volume pass (deeds_of q.run))) (sym passed)
+                (subst (λ (d : List (Deed VolumeKeys)). KnowsDeeds volume pass d) q.deeds_are s.told);
+          },
+        )

@@ -1,7 +1,7 @@
 -- Sessions over a volume whose conversion is led on beside them: what its clients were put, what a stop
 -- leaves of its disk, and how the conversion's worker ended.
 use Rattle.std.specs.Prelude.{ℕ, ◌≡◌, ◌≢◌, ◌⊎◌, ◌-◌, ◌^◌, ◌<◌, ◌≤◌, false, true, List, ◌∷◌}
-use Rattle.std.specs.Prelude.{◌++◌, length, Some, IsSomeAnd}
+use Rattle.std.specs.Prelude.{◌++◌, length, map, Some, IsSomeAnd}
 use Rattle.base_terms.specs.Causes.{Rose}
 use Rattle.bays.specs.Stories.{LinkState}
 use Rattle.block_server.specs.Serving.{KnowsDeeds}
@@ -9,11 +9,11 @@ use Rattle.volume_laws.specs.BesideConversions.Ends.{IsConvertedBeside, MayConve
 use Rattle.crash_laws.specs.HeaderAreas.Headers.{Handed, Header, Layout}
 use Rattle.base_terms.specs.declared.disk_sizes.Sizes.{Sizes}
 use Rattle.volume_laws.specs.BesideLanes.Executing.{ExecutesBeside}
-use Rattle.volume_laws.specs.BesideLanes.Lanes.{works_over}
+use Rattle.volume_laws.specs.BesideLanes.Lanes.{deeds_of, works_over}
 use Rattle.plain_disk.specs.Outcomes.{AreServed}
 use Rattle.plain_disk.specs.Plain.{Block, Exchange, Legal}
 use Rattle.reenc_tool.specs.Outcomes.{Coming}
-use Rattle.reenc_tool.specs.Runs.{StoodStill, VolumeKeys}
+use Rattle.reenc_tool.specs.Runs.{HasServed, StoodStill, VolumeKeys}
 use Rattle.reenc_tool.specs.Sessions.{HavePlayed, cause_by, most_events}
 use Rattle.reenc_tool.specs.declared.ended.Cause.TheVariants.{Fine}
 use Rattle.reenc_worker.specs.declared.ends.WorkerEnd.{WorkerEnd}
@@ -24,12 +24,15 @@ use Rattle.volume_laws.specs.BesideServing.Failing.{GoesByDeeds}
 use Rattle.volume_laws.specs.BesideServing.Replies.{DeviceErrorsAreExact, PlacesAreExact}
 use Rattle.volume_laws.specs.BesideServing.Stops.{StopsAfter}
 use Rattle.volume_laws.specs.BesideServing.Tables.{TellsDeeds}
+use Rattle.recovery_laws.specs.Served.Clients.{happening_without_work, without_work}
+use Rattle.shared_volume.specs.Histories.{IsReadSo}
 use Rattle.shared_volume.specs.Serving.{EndsBy, WentOn}
 use Rattle.volume_laws.specs.Converting.{StartsCertain, StartsUnder}
 use Rattle.volume_laws.specs.Imaging.{AreDated}
 use Rattle.volume_machine.specs.Answers.{Tagged, untagged}
 use Rattle.volume_machine.specs.Deeds.{Deed, state_after}
 use Rattle.volume_machine.specs.Readings.{Reading}
+use Rattle.volume_machine.specs.Runs.{Happening}
 use Rattle.volume_machine.specs.Seals.{Seals, AreLawful}
 use Rattle.volume_machine.specs.States.{State, size_of}
 use Rattle.volume_machine.specs.WorkSteps.{WorkStep}
@@ -130,3 +133,24 @@ pub record HasServedConverting {L : Type 0} (state : L → LinkState) (sizes : S
       → came.cause ≡ cause_by (Some end) final.disk.faults false 0 0 came.memory)
   -- all was fine only where the conversion is at its end
   pub fine : came.cause ≡ Fine → (end ≡ Finished) × (final.broken ≡ false)
+
+-- ---- a conversion that lies idle
+-- The same run on the volume with what its conversion takes: the same events and outcomes, which as deeds
+-- of that volume executed the same operations. The pass tells these deeds, entry by entry.
+pub record IsRunOfWhole {L : Type 0} {state : L → LinkState} {seals : Seals} {left : DiskState}
+    {begun : List L} {came : Coming L} (sizes : Sizes) (volume : State VolumeKeys)
+    (served : HasServed state (without_work volume) seals left begun came) : Type 0 where
+  pub run : List (Happening VolumeKeys)
+  pub run_is : served.run ≡ map happening_without_work run
+  pub final : State VolumeKeys
+  pub final_is : served.final ≡ without_work final
+  pub did : ExecutesBeside (reading_of sizes) seals volume final (deeds_of run) served.operations
+  pub told : IsSomeAnd came.pass (λ pass. KnowsDeeds volume pass (deeds_of run))
+
+-- Sessions were served on a volume while what its conversion takes lay idle: so they were on the volume
+-- without that, and by the same run on the whole one, by each sizes by which its header is read.
+abbrev pub IsServedAlone : {L : Type 0} → (L → LinkState) → State VolumeKeys → Seals → DiskState
+    → List L → Coming L → Type 0
+IsServedAlone state volume seals left begun came =
+    (served : HasServed state (without_work volume) seals left begun came)
+    × ((sizes : Sizes) → IsReadSo sizes volume → IsRunOfWhole sizes volume served)

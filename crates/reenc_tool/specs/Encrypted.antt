@@ -16,7 +16,7 @@ use Rattle.volume_machine.specs.Runs.{Happening, IsRun}
 use Rattle.volume_machine.specs.Seals.{Seals, seals_of}
 use Rattle.volume_machine.specs.States.{State}
 use Rattle.volume_opening.specs.Openings.{IsOpenedBy}
-use Rattle.volume_opening.specs.Refusals.{AreOf, IsUnopenedBy}
+use Rattle.volume_opening.specs.Refusals.{AreOf, IsUnopenedBy, TellsAlone}
 use Rattle.volume_opening.specs.Stops.{StandsAlong}
 use Rattle.volume_opening.specs.declared.refusal.Refusal.{Refusal}
 use Rattle.volume_opening.specs.declared.refusal.Refusal.TheVariants.{InProgress}
@@ -34,7 +34,8 @@ abbrev pub AsksKey : Type 0 → Type 1
 AsksKey B = B → List ℕ → Result (List ℕ) BayFault → B → Type 0
 
 -- ---- what is handed back
--- The disks of a volume are handed back, which as one show this, with what came of sessions.
+-- The disks of a volume are handed back, which as one show this, with what came of sessions; one
+-- alone tells the tables that were shown.
 pub record HandsBack {D L : Type 0} (device : D → DiskState) (shown : DiskState) (came : Coming L)
     (outcome : Outcome D L) : Type 0 where
   pub disk : D
@@ -43,6 +44,7 @@ pub record HandsBack {D L : Type 0} (device : D → DiskState) (shown : DiskStat
   pub joint : Joint
   pub shows : joined_disk joint ≡ shown
   pub are : AreOf device joint header disk
+  pub tables : TellsAlone device shown header disk
 
 -- ---- sessions
 -- Sessions were served on a volume that was opened, over these links, and its disks are handed

@@ -78,18 +78,26 @@ pub record StandsAllowedFor {K : Type 0} (sizes : Sizes) (pass : List ℕ) (volu
   pub stands : StandsAgainFor sizes pass image held
   pub allowed : IsAllowed volume seals deeds left held
 
--- So does each image in which no copy of a header is torn or hidden, wherever deeds stop.
-abbrev pub StandsAgainBeside : {C : Type 0} → (C → ℕ → List ℕ → List ℕ) → (C → ℕ → List ℕ → List ℕ)
-    → Device → List ℕ → Stored → State (Keys C) → List (List ℕ) → Type 0
-StandsAgainBeside {C} sealed opened device pass header volume content =
-    (deeds : List (Deed (Keys C))) (exchanges : List Exchange)
-    → AreDeeds (reading_of (sizes_alone device)) (volume_seals sealed opened volume) volume deeds
-    → AreExchanges (answered_over (volume_seals sealed opened volume) volume no_plain deeds) exchanges
+-- Behind these deeds, which answered these operations, so does each image in which no copy of a header
+-- is torn or hidden.
+abbrev pub StandsAgainBehind : {C : Type 0} → (C → ℕ → List ℕ → List ℕ) → (C → ℕ → List ℕ → List ℕ)
+    → Device → List ℕ → Stored → State (Keys C) → List (List ℕ) → List (Deed (Keys C))
+    → List Exchange → Type 0
+StandsAgainBehind {C} sealed opened device pass header volume content deeds exchanges =
+    AreExchanges (answered_over (volume_seals sealed opened volume) volume no_plain deeds) exchanges
     → (told : Told) → (state_after volume deeds).disk.told ≡ Some told → (image : List (List ℕ))
     → IsTaken (reading_of (sizes_alone device)) (state_after volume deeds)
     (handed_over volume (both_of (header_on header)) deeds) told.now image
     → StandsAllowedFor (sizes_alone device) pass volume (volume_seals sealed opened volume) content deeds
     exchanges (joined image)
+
+-- So it is wherever deeds stop.
+abbrev pub StandsAgainBeside : {C : Type 0} → (C → ℕ → List ℕ → List ℕ) → (C → ℕ → List ℕ → List ℕ)
+    → Device → List ℕ → Stored → State (Keys C) → List (List ℕ) → Type 0
+StandsAgainBeside {C} sealed opened device pass header volume content =
+    (deeds : List (Deed (Keys C))) (exchanges : List Exchange)
+    → AreDeeds (reading_of (sizes_alone device)) (volume_seals sealed opened volume) volume deeds
+    → StandsAgainBehind sealed opened device pass header volume content deeds exchanges
 
 -- ---- under the passphrase, at the end
 -- Where the disk told its bytes, and they stood for a content, those that are left stand for the newest

@@ -1,25 +1,15 @@
 -- What a command did.
-use Rattle.std.specs.Prelude.{ℕ, ◌≡◌, ◌≢◌, ◌⊎◌, List, [], map, Option, Some, None, Ok}
-use Rattle.std.specs.Prelude.{string_bytes}
+use Rattle.std.specs.Prelude.{ℕ, ◌≡◌, ◌≢◌, ◌⊎◌, List, Option, Some, None, Ok}
 use Rattle.bays.specs.Bays.{Holdings, LeavesOtherDisks}
 use Rattle.bays.specs.Stories.{LinkState}
 use Rattle.sector_disk.specs.Devices.{Device as DiskState}
-use Rattle.reenc_tool.specs.declared.ended.Cause.{Cause}
-use Rattle.reenc_tool.specs.declared.ended.Cause.TheVariants.{Usage, Memory}
+use Rattle.reenc_tool.specs.Alone.{CameAlone}
 use Rattle.reenc_tool.specs.Encrypted.{AsksKey}
 use Rattle.reenc_tool.specs.KeyFiles.{ServesVolume}
 use Rattle.reenc_tool.specs.Linking.{AsksLinks}
-use Rattle.reenc_tool.specs.Making.{HasMade}
 use Rattle.reenc_tool.specs.Plain.{ServesPlain}
-use Rattle.reenc_tool.specs.Resuming.{HasResumed}
-use Rattle.reenc_tool.specs.Showing.{HasShown}
-use Rattle.reenc_tool.specs.Starting.{HasStarted}
-use Rattle.reenc_tool.specs.Outcomes.{AsksDisk, HasNoDisk, Outcome, unserved}
-use Rattle.command_line.specs.Commands.{Serving, Showing, asked, formats, resumes, serves, shows}
-use Rattle.command_line.specs.Commands.{starts}
-use Rattle.command_line.specs.Formats.{Formatting}
-use Rattle.command_line.specs.Resumes.{Resuming}
-use Rattle.command_line.specs.Starts.{Starting}
+use Rattle.reenc_tool.specs.Outcomes.{AsksDisk, HasNoDisk, Outcome}
+use Rattle.command_line.specs.Commands.{Serving, asked, serves}
 use Rattle.io_edge.specs.Supply.{Supply}
 
 -- What came of the disk that a bay gave: it was served as it is, or a key file was asked for, and
@@ -53,11 +43,6 @@ pub record LeavesRest {D : Type 0} (serve : Serving) (old new : Holdings D) : Ty
   pub keys : new.keyring ≡ old.keyring
   pub clients : (other : List ℕ) → other ≢ serve.address → new.inputs other ≡ old.inputs other
 
--- the cause keeps the words that ask for nothing
-abbrev pub KeepsWords : List (List ℕ) → Cause → Type 0
-KeepsWords words (Usage kept) = map string_bytes kept.now ≡ words
-KeepsWords words _ = ⊥
-
 -- what a command did that was told to serve
 abbrev pub Serviced : {B D L : Type 0} → (D → DiskState) → (L → LinkState) → (B → Holdings D) →
     AsksDisk B D → AsksKey B → AsksLinks B L → Serving → B → B → Outcome D L →
@@ -67,24 +52,14 @@ Serviced device state holdings asks_disk asks_key asks_links serve old new outco
     × (HasDisk device state holdings asks_disk asks_key asks_links serve old new outcome
     ⊎ HasNoDisk holdings asks_disk serve.disk serve.atom None old new outcome)
 
--- What a command did whose words were read, or not: it was told to serve, to show, to format, to
--- begin a conversion or to lead one to its end, which its report belongs to; or nothing was asked of
--- the bay and of the seeds, since the words ask for nothing or memory was wanted.
+-- What a command did whose words were read, or not: it was told to serve, and has no report; or it
+-- is one without clients, or the words ask for nothing, or memory was wanted.
 abbrev pub Came : {B D L : Type 0} → (D → DiskState) → (L → LinkState) → (B → Holdings D) →
     AsksDisk B D → AsksDisk B D → AsksKey B → AsksLinks B L → List (List ℕ) → Supply → Supply →
     B → B → Outcome D L → Option (List ℕ) → Type 0
 Came device state holdings asks_disk asks_reading asks_key asks_links words supply now old new
     outcome report =
-    ((asked words ≡ None) × KeepsWords words outcome.cause
-    × (outcome ≡ unserved outcome.cause None []) × (new ≡ old) × (report ≡ None))
-    ⊎ ((outcome ≡ unserved Memory None []) × (new ≡ old) × (now ≡ supply) × (report ≡ None))
-    ⊎ ((serve : Serving) × (asked words ≡ Some (serves serve))
+    ((serve : Serving) × (asked words ≡ Some (serves serve))
     × Serviced device state holdings asks_disk asks_key asks_links serve old new outcome report)
-    ⊎ ((show : Showing) × (asked words ≡ Some (shows show))
-    × HasShown device holdings asks_reading show old new outcome report)
-    ⊎ ((format : Formatting) × (asked words ≡ Some (formats format))
-    × HasMade device holdings asks_disk asks_key format supply now old new outcome report)
-    ⊎ ((start : Starting) × (asked words ≡ Some (starts start))
-    × HasStarted device holdings asks_disk asks_key start supply now old new outcome report)
-    ⊎ ((resume : Resuming) × (asked words ≡ Some (resumes resume)) × (now ≡ supply)
-    × HasResumed device holdings asks_disk asks_key resume old new outcome report)
+    ⊎ CameAlone device holdings asks_disk asks_reading asks_key words supply now old new outcome
+    report

@@ -1,5 +1,6 @@
 -- What `serve` did on a volume of which a conversion is under way.
-use Rattle.std.specs.Prelude.{ℕ, ◌≡◌, ◌≢◌, ◌+◌, ◌<◌, Bool, true, false, List, length, Option, Some}
+use Rattle.std.specs.Prelude.{ℕ, ◌≡◌, ◌≢◌, ◌+◌, ◌++◌, ◌<◌, Bool, true, false, List, length, Option}
+use Rattle.std.specs.Prelude.{Some}
 use Rattle.aes_core.specs.declared.cipher.Aes.{Aes}
 use Rattle.bays.specs.Bays.{Holdings}
 use Rattle.bays.specs.Stories.{LinkState}
@@ -9,7 +10,7 @@ use Rattle.base_terms.specs.declared.disk_sizes.Sizes.{Sizes}
 use Rattle.header_report.specs.Examinations.{sizes_alone}
 use Rattle.luks_store.specs.declared.loaded.Stored.{Stored}
 use Rattle.image_laws.specs.Opened.Images.{ImageStandsFor}
-use Rattle.plain_disk.specs.Plain.{Block, Legal, settled_blocks}
+use Rattle.plain_disk.specs.Plain.{Block, Exchange, Legal, settled_blocks}
 use Rattle.resume_disk.specs.Complete.{WantsBefore}
 use Rattle.resume_disk.specs.Refusals.{IsRefusedBy}
 use Rattle.resume_disk.specs.Resuming.{IsOpenedMidway}
@@ -22,16 +23,18 @@ use Rattle.sector_disk.specs.Devices.{Device as DiskState}
 use Rattle.recovery_laws.specs.Served.Clients.{StoodFor, without_work}
 use Rattle.recovery_laws.specs.Served.Serving.{KeepsFor}
 use Rattle.volume_laws.specs.BesideConverted.Ends.{HoldsNewest}
+use Rattle.volume_laws.specs.BesideLanes.Lanes.{deeds_of}
 use Rattle.volume_machine.specs.Answers.{untagged}
 use Rattle.volume_machine.specs.Deeds.{AreDeeds, Deed, state_after}
 use Rattle.volume_machine.specs.Runs.{Happening, IsRun, last_of}
 use Rattle.volume_machine.specs.States.{State}
 use Rattle.zone_events.specs.Heads.{header_on}
 use Rattle.zone_events.specs.Readings.{reading_of}
-use Rattle.reenc_tool.specs.Beside.{HasServedConverting}
+use Rattle.reenc_tool.specs.Beside.{HasServedConverting, IsRunOfWhole}
 use Rattle.reenc_tool.specs.Encrypted.{HandsBack, RanOver}
 use Rattle.reenc_tool.specs.Kept.{KeepsRefused, KnowsRefused, WhereNoneFailed}
-use Rattle.reenc_tool.specs.KeptBeside.{KeepsBeside, StandsAgainBeside, StandsAtEndBeside}
+use Rattle.reenc_tool.specs.KeptBeside.{KeepsBeside, StandsAgainBehind, StandsAgainBeside}
+use Rattle.reenc_tool.specs.KeptBeside.{StandsAtEndBeside}
 use Rattle.reenc_tool.specs.Linking.{AsksLinks, IsLinked}
 use Rattle.reenc_tool.specs.Outcomes.{Coming, Outcome, none_came}
 use Rattle.reenc_tool.specs.Resuming.{ended_unresumed}
@@ -75,8 +78,24 @@ pub record RanBeside {D L : Type 0} (sector : DiskCipher Aes → ℕ)
       → StandsAtEndBeside (device disk) pass taken.calls.found.header volume.map.atom
       (untagged served.operations) left
 
--- Sessions were served while nothing was converted: they are those of the volume without what its
--- conversion takes. Or the conversion was led on meanwhile.
+-- ---- a conversion that lies idle
+-- Sessions were served over these links on a volume whose conversion was taken up, while that lay idle;
+-- and the disks are handed back. What is said of a run is said of the volume without what its conversion
+-- takes; and it is a run of the whole volume too. Where the disk told its bytes, and they stood for a
+-- content under the passphrase, then wherever this run stops, events of clients alone, each image stands
+-- under it by the header that it has itself, for a content that the operations answered by then allow.
+pub record RanIdle {D L : Type 0} (sealed opened : DiskCipher Aes → ℕ → List ℕ → List ℕ)
+    (device : D → DiskState) (state : L → LinkState) (disk : D) (pass : List ℕ) (last : Stored)
+    (volume : State VolumeKeys) (begun : List L) (outcome : Outcome D L) : Type 0 where
+  pub over : RanOver device state (without_work volume) (volume_seals sealed opened volume) begun outcome
+  pub whole : IsRunOfWhole (sizes_alone (device disk)) volume over.served
+  pub again : (first : List ℕ) (content : List (List ℕ)) → (device disk).values ≡ Some first
+      → ImageStandsFor (sizes_alone (device disk)) pass first content
+      → (earlier later : List (Deed VolumeKeys)) → deeds_of whole.run ≡ earlier ++ later
+      → (exchanges : List Exchange)
+      → StandsAgainBehind sealed opened (device disk) pass last volume content earlier exchanges
+
+-- Sessions were served while nothing was converted, or the conversion was led on meanwhile.
 abbrev pub RanMidway : {D L : Type 0} {sector : DiskCipher Aes → ℕ}
     {sealed opened : DiskCipher Aes → ℕ → List ℕ → List ℕ} {pass : List ℕ} {lanes : ℕ}
     {volume : State VolumeKeys} (device : D → DiskState) (state : L → LinkState) (disk : D)
@@ -84,7 +103,7 @@ abbrev pub RanMidway : {D L : Type 0} {sector : DiskCipher Aes → ℕ}
     → Outcome D L → Type 0
 RanMidway {D} {L} {sector} {sealed} {opened} {pass} {lanes} {volume} device state disk taken false
     begun outcome =
-    RanOver device state (without_work volume) (volume_seals sealed opened volume) begun outcome
+    RanIdle sealed opened device state disk pass taken.calls.led.last volume begun outcome
 RanMidway {D} {L} {sector} {sealed} {opened} {pass} {lanes} {volume} device state disk taken true
     begun outcome =
     RanBeside sector sealed opened device state disk pass lanes volume taken begun outcome
@@ -137,8 +156,8 @@ pub record HasTakenUp {B D L : Type 0} (device : D → DiskState) (state : L →
 -- unless one of its calls failed, or memory was wanted once all was written by which it is opened. Where
 -- the keys of the sides were found, what the disk stood for under the passphrase it stood for under these,
 -- and each image since the first sync stands for it. Where no device call failed only memory was wanted, a
--- number or room for the header that was to follow, or bytes of the volume lie behind the last whole atom
--- of the disk.
+-- number or room for the header that was to follow, or bytes that may be sectors of the volume lie behind
+-- the last whole atom of the disk.
 pub record HasNoConversion {B D L : Type 0} (device : D → DiskState) (pass : List ℕ) (disk : D)
     (between new : B) (outcome : Outcome D L) : Type 0 where
   pub sector : DiskCipher Aes → ℕ

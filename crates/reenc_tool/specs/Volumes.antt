@@ -2,17 +2,16 @@
 use Rattle.std.specs.Prelude.{ℕ, ◌≡◌, ◌≢◌, ◌⊎◌, Bool, true, false, List, None, Some, IsSome}
 use Rattle.bays.specs.Stories.{LinkState}
 use Rattle.base_terms.specs.declared.disk_sizes.Sizes.{Sizes}
-use Rattle.reenc_tool.specs.Beside.{HasServedConverting}
+use Rattle.reenc_tool.specs.Beside.{HasServedConverting, IsServedAlone}
 use Rattle.reenc_tool.specs.Encrypted.{HandsBack}
 use Rattle.reenc_tool.specs.Outcomes.{Coming, Outcome}
-use Rattle.reenc_tool.specs.Runs.{HasServed, VolumeKeys}
+use Rattle.reenc_tool.specs.Runs.{VolumeKeys}
 use Rattle.reenc_tool.specs.declared.opening.NoVolume.{NoVolume}
 use Rattle.reenc_tool.specs.declared.opening.NoVolume.TheVariants as reasons
 use Rattle.resume_disk.specs.Refusals.{IsRefusedBy}
 use Rattle.resume_disk.specs.Resuming.{IsOpenedMidway}
 use Rattle.resume_disk.specs.declared.refusal.Refusal.TheVariants.{Idle}
 use Rattle.sector_disk.specs.Devices.{Device}
-use Rattle.recovery_laws.specs.Served.Clients.{without_work}
 use Rattle.volume_core.specs.Zones.{IsReadBy}
 use Rattle.volume_laws.specs.Converting.{IsInOrder}
 use Rattle.volume_machine.specs.Seals.{Seals}
@@ -50,7 +49,7 @@ IsLeftAlone converts volume = (converts ≡ false) ⊎ (volume.work ≡ None)
 abbrev pub IsServedAs : {L : Type 0} → (L → LinkState) → Bool → State VolumeKeys → Seals → Device
     → List L → Coming L → Type 0
 IsServedAs state converts volume seals left begun came =
-    (IsLeftAlone converts volume × HasServed state (without_work volume) seals left begun came)
+    (IsLeftAlone converts volume × IsServedAlone state volume seals left begun came)
     ⊎ ((converts ≡ true) × IsSome volume.work
     × ((sizes : Sizes) → IsReadBy sizes volume → IsInOrder (reading_of sizes) volume
     → HasServedConverting state sizes volume seals left begun came))

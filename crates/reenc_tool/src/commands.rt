@@ -1,6 +1,6 @@
 ghost use Rattle.std.specs.Prelude.{◌≡◌, ◌+◌, ◌<◌, ◌≤◌, ◌⊎◌, ℕ, List, [], length, map};
 ghost use Rattle.std.specs.Prelude.{slice_index_or};
-ghost use Rattle.std.specs.Prelude.{string_bytes, vec_len, Option, Some, None, IfOk, option_map};
+ghost use Rattle.std.specs.Prelude.{string_bytes, vec_len, Option, Some, None};
 ghost use Rattle.bays.specs.Bays.{LeavesOtherClients};
 ghost use Rattle.command_line.specs.Commands.{IsServing, asked, serving};
 ghost use Rattle.reenc_tool.specs.Plain.{IsUnserved, Ran, ServesPlain};
@@ -12,17 +12,14 @@ ghost use Rattle.reenc_tool.specs.Status.{status_of};
 ghost use Rattle.reenc_tool.specs.Texts.{Prints, said, sessions_in, text_of};
 ghost use Rattle.reenc_tool.specs.declared.ended.Cause.{Cause};
 
+use crate::alone::{Alone, run_alone};
 use crate::ended::{Cause, Ended, Failing, Fit, Sessions};
-use crate::making::make;
 use crate::notices::note_tail;
 use crate::opening::serve_encrypted;
-use crate::resuming::resume;
 use crate::sessions::{lanes_for, serve_volume};
-use crate::showing::show;
-use crate::starting::start;
-use crate::text::{count_sessions, print};
+use crate::text::print_end;
 use bays::{Bay, BayFault, Link, Manner};
-use command_line::{Command, Refusal, Serve, read_words};
+use command_line::Serve;
 use gates::Gate;
 use io_edge::{Seeds, Sink};
 use sector_cipher::Context;
@@ -166,53 +163,13 @@ where
     }
 }
 
-/// Executes the command that the words ask for, and gives its report, where it has one.
-fn execute<'w, W: Threads + Wait + Sync, B: Bay, R: Seeds, G: Gate + Sync>(
-    rt: &W,
-    alloc: Global,
-    words: &'w [String],
-    bay: &mut B,
-    seeds: &mut R,
-    gate: &G,
-) -> (Ended<'w, B::Disk, B::Link>, Option<String>)
-where
-    B::Disk: Send,
-    B::Link: Send + Drop,
-    <B::Link as Link>::In: Send,
-    <B::Link as Link>::Out: Send,
-    ensures status { result.0.status ≡ status_of result.0.cause }
-    ensures came { Came B.Disk.device B.Link.state B.holdings B.asks_disk B.asks_reading
-        B.asks_key B.asks_links (map string_bytes words.now) (R.supply seeds.old)
-        (R.supply seeds.new) bay.old bay.new (outcome_of result.0)
-        (option_map (λ text. string_bytes text) result.1) }
-    ensures unasked { asked (map string_bytes words.now) ≡ None → bay.new ≡ bay.old }
-    ensures seeds { DrawsNone (map string_bytes words.now) seeds.old seeds.new }
-{
-    let command = match read_words(alloc, words) {
-        Ok(command) => command,
-        Err(Refusal::Usage) => {
-            let cause = Cause::Usage { words };
-            return (unserved(alloc, cause, None, Vec::new(alloc)), None);
-        }
-        Err(Refusal::Memory) => {
-            return (unserved(alloc, Cause::Memory, None, Vec::new(alloc)), None);
-        }
-    };
-    match command {
-        Command::Format(words) => make(alloc, bay, seeds, &words, gate),
-        Command::Init(words) => start(alloc, bay, seeds, &words, gate),
-        Command::Serve(words) => (serve(rt, alloc, bay, &words, gate), None),
-        Command::Resume(words) => resume(rt, alloc, bay, &words, gate),
-        Command::Status(words) => show(alloc, bay, &words, gate),
-    }
-}
-
 /// Runs the command that the words behind the program's name ask for, and prints what it says: of
 /// `format` `formatted U`, of `init` `started reencrypt DIRECTION RESILIENCE`, of `resume` `finished N
 /// blocks`, of `serve` `served S sessions`, of `status` what the header of a disk says, and of one
 /// that is refused `fault N NAME` with the status and the cause. `docs/CLI.md` has the words.
 ///
-/// Before each step of a conversion the gate is told how far it is.
+/// Before each step of a conversion the gate is told how far it is. Whatever serves no client is done by
+/// [`run_alone`], which doesn't wait.
 ///
 /// What holds at the end is `Came` of `specs/`, before the text is printed. Where sessions were served
 /// they are sessions of the protocol over the bytes that the links' connections gave, at once where
@@ -235,13 +192,13 @@ where
 /// header that converts nothing. Where the disk told its bytes, and they stood for a content under the
 /// passphrase, each image that a stop leaves of the opening or of the worker stands for that content,
 /// whatever the conversion ended with, and at its end each block holds it. Each cause has its reason.
-/// No conversion is begun, led on or served of a volume of which bytes lie behind the last whole atom
-/// of its disk, and none is begun by which keyslots of other passphrases go unasked: these are refused
-/// before anything is written. The bay is asked once for the disk, once for the header's and once for a key file, each where the
-/// words name one, and for clients once for the links, and for nothing else. The text changes the cause
-/// only where all was fine: to `Output` where it can't be put and pushed out, to `Memory` where memory
-/// is wanted for it. Words that ask for nothing leave the bay as it was, and those of other commands
-/// than `format` and `init` the seeds.
+/// No conversion is begun, led on or served of a volume where bytes that may be sectors of it lie behind
+/// the last whole atom of its disk. None is begun where several keyslots hold the volume's key, unless
+/// the others may go. These are refused before anything is written. The bay is asked once for the disk,
+/// once for the header's and once for a key file, each where the words name one, and for clients once
+/// for the links, and for nothing else. The text changes the cause only where all was fine: to `Output`
+/// where it can't be put and pushed out, to `Memory` where memory is wanted for it. Words that ask for
+/// nothing leave the bay as it was, and those of other commands than `format` and `init` the seeds.
 pub fn run<'w, W: Threads + Wait + Sync, B: Bay, R: Seeds, O: Sink, G: Gate + Sync>(
     rt: &W,
     alloc: Global,
@@ -267,13 +224,11 @@ where
     ensures unasked { asked (map string_bytes words.now) ≡ None → bay.new ≡ bay.old }
     ensures seeds { DrawsNone (map string_bytes words.now) seeds.old seeds.new }
 {
-    let (ended, report) = execute(rt, alloc, words, bay, seeds, gate);
-    let cause = print(
-        alloc,
-        out,
-        ended.cause,
-        &report,
-        count_sessions(ended.sessions.as_slice()),
-    );
-    ended.ending_by(cause)
+    match run_alone(rt, alloc, words, bay, seeds, out, gate) {
+        Alone::Ended(ended) => ended,
+        Alone::Serve(words) => {
+            let ended = serve(rt, alloc, bay, &words, gate);
+            print_end(alloc, out, ended, &None)
+        }
+    }
 }

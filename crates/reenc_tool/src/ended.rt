@@ -105,7 +105,8 @@ pub enum Fit {
     Numbers,
     /// A conversion has more steps than are counted, or the history of `serve` is full.
     Events,
-    /// So many bytes of a volume lie behind the last whole atom of its disk, and there are to be none.
+    /// So many bytes that may be sectors of a volume lie behind the last whole atom of its disk, and there
+    /// are to be none.
     Tail,
 }
 
@@ -164,8 +165,8 @@ impl<'w> Cause<'w> {
         }
     }
 
-    /// The cause of a command by which so many bytes of a volume would be lost, which lie behind the
-    /// last whole atom of its disk.
+    /// The cause of a command by which so many bytes would be lost that may be sectors of a volume, and
+    /// lie behind the last whole atom of its disk.
     pub(crate) fn of_tail(bytes: u64) -> Cause<'w>
         ensures { result ≡ Cause.NoFit Fit.Tail bytes 0 }
     {

@@ -4,9 +4,11 @@
 //! asked their operations one after the other, and each status has its cause. That plain disk is
 //! the disk as it is, or the content that an encrypted volume on it stands for under a passphrase.
 //! A conversion of a volume is begun while no client is served; it is led to its end beside the clients
-//! that use the volume, or without them.
+//! that use the volume, or without them. What serves no client is done by `run_alone`, which waits for
+//! nobody: it returns once the calls that it makes have.
 #![tactic(auto)]
 
+mod alone;
 mod commands;
 mod ended;
 mod history;
@@ -22,8 +24,9 @@ mod text;
 mod trouble;
 mod volume_refusal;
 
+pub use alone::{Alone, run_alone};
 pub use bays::{Bay, BayFault, Link};
-pub use command_line::{asked_help, explain_words};
+pub use command_line::{Serve, asked_help, explain_words};
 pub use commands::run;
 pub use ended::{Cause, Ended, Failing, Fit};
 pub use header_report::FaultText;

@@ -15,7 +15,7 @@ pub fn note_tail<D: Disk, G: Gate>(alloc: Global, gate: &G, name: &str, disk: &D
     let line = if tail % 512 == 0 {
         format!(in alloc;
             "{name}: the last {tail} bytes aren't used: no whole atom of {atom} bytes \
-            (--atom 512 uses them where sectors have 512 bytes)"
+            (--atom 512 uses them, where sectors have 512 bytes and the disk writes 512 bytes whole)"
         )
     } else {
         format!(in alloc;

@@ -59,10 +59,7 @@ impl fmt::Display for UnresumedText<'_> {
                 write!(f, "{}: {}", key_of(*side), SlotsText(fault, "its digest"))
             }
             ResumeRefusal::Tail(bytes) => {
-                write!(
-                    f,
-                    "the last {bytes} bytes of the volume are in no whole atom"
-                )
+                write!(f, "the last {bytes} bytes of the disk are in no whole atom")
             }
             ResumeRefusal::Unopened(cause) => write!(f, "{}", ConversionText(cause)),
         }

@@ -1,17 +1,20 @@
 ghost use Rattle.std.specs.Prelude.{◌≡◌, ◌++◌, ℕ, vec_len, IfOk, option_map, string_bytes};
 ghost use Rattle.base_terms.specs.Causes.{HasCause};
 ghost use Rattle.reenc_tool.specs.Ending.{EndsAs};
+ghost use Rattle.reenc_tool.specs.Outcomes.{outcome_of};
+ghost use Rattle.reenc_tool.specs.Status.{status_of};
 ghost use Rattle.reenc_tool.specs.Texts.{Prints, said, served_line, sessions_in, text_of};
 ghost use Rattle.reenc_tool.specs.declared.ended.Cause.{Cause};
 
-use crate::ended::Cause;
+use crate::ended::{Cause, Ended};
 use base_terms::Failed;
 use io_edge::Sink;
 use nbd_session::SessionEnd;
+use sector_disk::Disk;
 use std::alloc::{AllocError, Global};
 
 /// How many sessions there were.
-pub fn count_sessions(lists: &[Vec<SessionEnd>]) -> usize
+fn count_sessions(lists: &[Vec<SessionEnd>]) -> usize
     ensures { result ≡ sessions_in (λ list. vec_len list) lists.now }
 {
     lists
@@ -22,7 +25,7 @@ pub fn count_sessions(lists: &[Vec<SessionEnd>]) -> usize
 /// Prints what a command says that ended so, and says how it ends: where all was fine and the text
 /// can't be put and pushed out, by `Output`; where memory is wanted for it, by `Memory`. What is
 /// said where all was fine is the report, or, where there is none, how many sessions were served.
-pub fn print<'w, O: Sink>(
+fn print<'w, O: Sink>(
     alloc: Global,
     out: &mut O,
     cause: Cause<'w>,
@@ -46,6 +49,29 @@ pub fn print<'w, O: Sink>(
         return Cause::Memory;
     };
     put_report(out, line.as_str())
+}
+
+/// Prints the text of a command that came to this end, with its report where it has one, and gives
+/// the end that it comes to by that.
+pub fn print_end<'w, O: Sink, D: Disk, L>(
+    alloc: Global,
+    out: &mut O,
+    ended: Ended<'w, D, L>,
+    report: &Option<String>,
+) -> Ended<'w, D, L>
+    ensures status { result.status ≡ status_of result.cause }
+    ensures cause { EndsAs ended.entry.cause (O.outlet out.old).faults (O.outlet out.new).faults
+        result.cause }
+    ensures rest { outcome_of ended.entry
+        ≡ record (outcome_of result) { cause = ended.entry.cause } }
+    ensures text { Prints (O.outlet out.old) (O.outlet out.new)
+        (text_of ended.entry.cause result.cause
+        (said (option_map (λ text. string_bytes text) report.now)
+        (sessions_in (λ list. vec_len list) result.sessions.items))) }
+{
+    let count = count_sessions(ended.sessions.as_slice());
+    let cause = print(alloc, out, ended.cause, report, count);
+    ended.ending_by(cause)
 }
 
 /// Prints the text of a command that did what it was asked.

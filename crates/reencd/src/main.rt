@@ -4,6 +4,7 @@
 #![tactic(auto)]
 
 mod notices;
+mod unsupported;
 
 use file_disk::FileSystem;
 use gates::Gate;
@@ -18,6 +19,7 @@ use std::process::ExitCode;
 use std::sync::Wait;
 use std::thread::Threads;
 use std::time::Clock;
+use unsupported::tell_name;
 
 fn main(rt: HostRuntime) -> ExitCode {
     if let Err(error) = keep_standard_streams(&rt) {
@@ -49,6 +51,7 @@ fn main(rt: HostRuntime) -> ExitCode {
         &gate,
     );
     explain(rt.alloc(), rt.stderr(), &told);
+    tell_name(&rt, rt.alloc(), rt.stderr(), words.as_slice(), &told.fault);
     ExitCode::from(told.cause.status())
 }
 
@@ -83,6 +86,15 @@ where
         cause,
         fault,
         refusal,
+        is_format: is_format(words),
+    }
+}
+
+/// Whether the words ask for a new volume.
+fn is_format(words: &[String]) -> bool {
+    match words.first() {
+        Some(word) => word.as_str() == "format",
+        None => false,
     }
 }
 

@@ -10,6 +10,8 @@ pub struct Reason<'w> {
     pub cause: Cause<'w>,
     pub fault: Option<StoreFault>,
     pub refusal: Option<VolumeRefusal>,
+    /// Whether it was to make a new volume.
+    pub is_format: bool,
 }
 
 /// Says on standard error what was wrong with the words of a command, with its disk, with the
@@ -22,7 +24,7 @@ pub fn explain(alloc: Global, errors: Stderr, reason: &Reason<'_>) {
             what,
             number,
             limit,
-        } => explain_fit(errors, what, number, limit, reason.refusal.is_some()),
+        } => explain_fit(errors, what, number, limit, reason),
         Cause::NoHeader
         | Cause::Header
         | Cause::Foreign
@@ -58,13 +60,13 @@ fn explain_usage(alloc: Global, errors: Stderr, words: &[String]) {
     }
 }
 
-/// Says in one line what doesn't fit, by the counted number and its limit, and whether a conversion is
-/// under way.
-fn explain_fit(errors: Stderr, what: Fit, number: u64, limit: u64, midway: bool) {
+/// Says in one line what doesn't fit, by the counted number and its limit.
+fn explain_fit(errors: Stderr, what: Fit, number: u64, limit: u64, reason: &Reason<'_>) {
     let _ = match what {
         Fit::Area => eprintln!(errors;
             "reencd: no room in the header's keyslots area: {number} bytes are wanted at one place, \
-            and there are {limit} (less --hotzone-size, or a volume with a larger --data-offset)"
+            and there are {limit} ({})",
+            area_cure(reason.is_format)
         ),
         Fit::Json => eprintln!(errors;
             "reencd: a header's text of {number} bytes, for which there are {limit}"
@@ -85,7 +87,7 @@ fn explain_fit(errors: Stderr, what: Fit, number: u64, limit: u64, midway: bool)
         Fit::Tail => eprintln!(errors;
             "reencd: tail: the disk has {number} bytes behind its last whole atom, which a conversion \
             wouldn't reach: {}",
-            tail_cure(number, midway)
+            tail_cure(reason.refusal.is_some())
         ),
         Fit::Passphrase => eprintln!(errors;
             "reencd: the key file has {}, and a passphrase has 1 to 512",
@@ -94,15 +96,25 @@ fn explain_fit(errors: Stderr, what: Fit, number: u64, limit: u64, midway: bool)
     };
 }
 
-/// What helps where so many bytes lie behind the last whole atom. Atoms of another size are no help
-/// once a conversion is under way.
-fn tail_cure(bytes: u64, midway: bool) -> &'static str {
-    if midway {
-        "give the disk the size that it had when the conversion was begun"
-    } else if bytes % 512 == 0 {
-        "--atom 512 does, where sectors have 512 bytes; else cut the disk to whole atoms, or lengthen it"
+/// What helps where an area has no room. A volume that there is can't be given another data offset.
+fn area_cure(is_format: bool) -> &'static str {
+    if is_format {
+        "a larger --data-offset, or a longer disk of the header, gives more"
     } else {
-        "cut the disk to whole atoms, or lengthen it"
+        "for the zones, of which a smaller --hotzone-size asks for less, or for the new keyslot, of \
+        which a smaller --key-size does"
+    }
+}
+
+/// What helps where the disk has a tail. Atoms of another size are no help once a conversion is under
+/// way.
+fn tail_cure(is_midway: bool) -> &'static str {
+    if is_midway {
+        "give it the size that it had when the conversion was begun, or whole atoms by a loop device \
+        (`losetup --sizelimit`)"
+    } else {
+        "lengthen the disk to whole atoms, or take --atom 512, where sectors have 512 bytes and the \
+        disk writes 512 bytes whole"
     }
 }
 

@@ -1,42 +1,39 @@
-use Rattle.std.proofs.Common.{ℕ, ◌∙◌, map, ap, sym, subst, option_map}
-use Rattle.std.specs.Prelude.{string_bytes, vec_len}
-use Rattle.reenc_tool.specs.declared.ended.Cause.{Cause}
+use Rattle.std.proofs.Common.{None, inl, inr, subst}
+use Rattle.std.specs.Prelude.{vec_len}
+use Rattle.command_line.specs.Commands.{serving}
 use Rattle.reenc_tool.specs.Ending.{EndsAs}
-use Rattle.reenc_tool.specs.Outcomes.{Outcome, known_by}
-use Rattle.reenc_tool.specs.Promise.{Came}
+use Rattle.reenc_tool.specs.Outcomes.{Outcome, outcome_of}
+use Rattle.reenc_tool.specs.Promise.{Serviced}
 use Rattle.reenc_tool.specs.Texts.{Prints, said, sessions_in, text_of}
-use Rattle.reenc_tool.proofs.RunLemmas.{same_outcome}
 use Rattle.reenc_tool.proofs.commands.run.Goals as goal
 
-pub returns-clause-run : goal.returns-clause-run
-returns-clause-run g c =
-    let ended = c.execute-ended.result.0 in
-    let report = option_map (λ text. string_bytes text) c.execute-ended.result.1 in
-    let before = g.O.Sink.outlet c.args.out.now in
-    let after = g.O.Sink.outlet c.print-cause.new.out in
-    let is = c.ending_by.ensures in
-    let sessions = ap (λ lists. lists.items) is.sessions in (
+pub returns-in-Ended-clause-run : goal.returns-in-Ended-clause-run
+returns-in-Ended-clause-run g c =
+    let (cause, report, ends, came, prints) = c.in-Ended.ensures.run in
+    (cause, report, ends, inr came, prints)
+
+-- words of `serve` were handed back, with all as it was
+pub returns-in-Serve-clause-run : goal.returns-in-Serve-clause-run
+returns-in-Serve-clause-run g c =
+    let (back, put) = c.in-Serve.ensures.run in
+    let ended = c.serve-ended.result in
+    let told = c.print_end.result in
+    let after = g.O.Sink.outlet c.print_end.new.out in (
       ended.cause,
-      report,
-      subst (λ (cause : Cause). EndsAs ended.cause before.faults after.faults cause) (sym is.cause)
-          c.print-cause.ensures.cause,
-      subst (λ (o : Outcome _ _). Came g.B.Disk.Disk.device g.B.Link.Link.state g.B.Bay.holdings
-          g.B.Bay.asks_disk g.B.Bay.asks_reading g.B.Bay.asks_key g.B.Bay.asks_links
-          (map string_bytes c.args.words.now) (g.R.Seeds.supply c.args.seeds.now)
-          (g.R.Seeds.supply c.execute-ended.new.seeds) c.args.bay.now c.execute-ended.new.bay o
-          report)
-          (same_outcome ended.cause _ _ _ _ _ _ _ _ _ _ _ _ _ _ _ _ (sym is.fault)
-          (sym is.refusal) (sym is.memory) (sym is.disk) (sym is.header)
-          (ap (option_map (λ pass. known_by pass)) (sym is.pass))
-          (ap (λ links. links.items) (sym is.links))
-          (ap (λ ends. map (λ list. list.items) ends.items) (sym is.sessions)))
-          c.execute-ended.ensures.came,
-      subst (λ (cause : Cause). Prints before after (text_of ended.cause cause
-          (said report (sessions_in (λ list. vec_len list) c.ending_by.result.sessions.items))))
-          (sym is.cause)
-          (subst (λ (count : ℕ).
-          Prints before after (text_of ended.cause c.print-cause.result (said report count)))
-          (c.count_sessions.ensures
-          ∙ ap (sessions_in (λ list. vec_len list)) (c.as_slice.ensures.value ∙ sym sessions))
-          c.print-cause.ensures.text),
+      None,
+      subst (λ out. EndsAs ended.cause (g.O.Sink.outlet out).faults after.faults told.cause) put
+          c.print_end.ensures.cause,
+      inl (
+        serving c.in-Serve.words,
+        back.asked_is,
+        subst (λ (o : Outcome _ _). Serviced g.B.Disk.Disk.device g.B.Link.Link.state g.B.Bay.holdings
+            g.B.Bay.asks_disk g.B.Bay.asks_key g.B.Bay.asks_links (serving c.in-Serve.words)
+            c.args.bay.now c.serve-ended.new.bay o None) c.print_end.ensures.rest
+            (subst (λ bay. Serviced g.B.Disk.Disk.device g.B.Link.Link.state g.B.Bay.holdings
+            g.B.Bay.asks_disk g.B.Bay.asks_key g.B.Bay.asks_links (serving c.in-Serve.words) bay
+            c.serve-ended.new.bay (outcome_of ended) None) back.bay c.serve-ended.ensures.serviced),
+      ),
+      subst (λ out. Prints (g.O.Sink.outlet out) after (text_of ended.cause told.cause
+          (said None (sessions_in (λ list. vec_len list) told.sessions.items)))) put
+          c.print_end.ensures.text,
     )

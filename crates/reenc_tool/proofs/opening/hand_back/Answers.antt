@@ -18,4 +18,5 @@ returns-clause-back g c = record {
     main = ap g.D.Disk.device c.parts-header.ensures.main;
     head = ap (in_front g.D.Disk.device c.args.joined.atom) c.parts-header.ensures.head;
   };
+  tables = c.parts-header.ensures.alone;
 }

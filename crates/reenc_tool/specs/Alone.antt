@@ -1,0 +1,63 @@
+-- What words did that were executed without clients.
+use Rattle.std.specs.Prelude.{ℕ, ◌≡◌, ◌⊎◌, List, [], map, Option, Some, None, string_bytes}
+use Rattle.bays.specs.Bays.{Holdings}
+use Rattle.command_line.specs.Commands.{IsServing, Showing, asked, formats, resumes, serves, serving}
+use Rattle.command_line.specs.Commands.{shows, starts}
+use Rattle.command_line.specs.Formats.{Formatting}
+use Rattle.command_line.specs.Resumes.{Resuming}
+use Rattle.command_line.specs.Starts.{Starting}
+use Rattle.command_line.specs.declared.command.Serve.{Serve}
+use Rattle.io_edge.specs.Supply.{Supply}
+use Rattle.sector_disk.specs.Devices.{Device as DiskState}
+use Rattle.reenc_tool.specs.declared.alone.Alone.{Alone}
+use Rattle.reenc_tool.specs.declared.alone.Alone.TheVariants as alones
+use Rattle.reenc_tool.specs.declared.ended.Cause.{Cause}
+use Rattle.reenc_tool.specs.declared.ended.Cause.TheVariants.{Usage, Memory}
+use Rattle.reenc_tool.specs.Encrypted.{AsksKey}
+use Rattle.reenc_tool.specs.Making.{HasMade}
+use Rattle.reenc_tool.specs.Outcomes.{AsksDisk, Outcome, unserved}
+use Rattle.reenc_tool.specs.Resuming.{HasResumed}
+use Rattle.reenc_tool.specs.Showing.{HasShown}
+use Rattle.reenc_tool.specs.Starting.{HasStarted}
+
+-- the cause keeps the words that ask for nothing
+abbrev pub KeepsWords : List (List ℕ) → Cause → Type 0
+KeepsWords words (Usage kept) = map string_bytes kept.now ≡ words
+KeepsWords words _ = ⊥
+
+-- What a command did whose words were read, or not, and that serves no client: it was told to show, to
+-- format, to begin a conversion or to lead one to its end, which its report belongs to; or nothing was
+-- asked of the bay and of the seeds, since the words ask for nothing or memory was wanted.
+abbrev pub CameAlone : {B D L : Type 0} → (D → DiskState) → (B → Holdings D) → AsksDisk B D →
+    AsksDisk B D → AsksKey B → List (List ℕ) → Supply → Supply → B → B → Outcome D L →
+    Option (List ℕ) → Type 0
+CameAlone device holdings asks_disk asks_reading asks_key words supply now old new outcome report =
+    ((asked words ≡ None) × KeepsWords words outcome.cause
+    × (outcome ≡ unserved outcome.cause None []) × (new ≡ old) × (report ≡ None))
+    ⊎ ((outcome ≡ unserved Memory None []) × (new ≡ old) × (now ≡ supply) × (report ≡ None))
+    ⊎ ((show : Showing) × (asked words ≡ Some (shows show))
+    × HasShown device holdings asks_reading show old new outcome report)
+    ⊎ ((format : Formatting) × (asked words ≡ Some (formats format))
+    × HasMade device holdings asks_disk asks_key format supply now old new outcome report)
+    ⊎ ((start : Starting) × (asked words ≡ Some (starts start))
+    × HasStarted device holdings asks_disk asks_key start supply now old new outcome report)
+    ⊎ ((resume : Resuming) × (asked words ≡ Some (resumes resume)) × (now ≡ supply)
+    × HasResumed device holdings asks_disk asks_key resume old new outcome report)
+
+-- ---- commands without clients, and the words of those with them
+-- a command came to its end, of which the one holds; or its words are handed back, of which the other does
+abbrev pub MatchAlone : {T : Type 0} → Alone T → (T → Type 0) → (Serve → Type 0) → Type 0
+MatchAlone (alones.Ended ended) IsEnd IsSaid = IsEnd ended
+MatchAlone (alones.Serve serve) IsEnd IsSaid = IsSaid serve
+
+abbrev pub IfEnded : {T : Type 0} → Alone T → (T → Type 0) → Type 0
+IfEnded alone IsEnd = MatchAlone alone IsEnd (λ _. Unit {0})
+
+-- The words ask for clients to be served, so, with each value within its bounds; and nothing was asked
+-- of the bay, and nothing drawn.
+pub record IsHandedBack {B R : Type 0} (words : List (List ℕ)) (serve : Serve) (old new : B)
+    (seeds drawn : R) : Type 0 where
+  pub asked_is : asked words ≡ Some (serves (serving serve))
+  pub bounded : IsServing (serving serve)
+  pub bay : new ≡ old
+  pub seeds_are : drawn ≡ seeds
