@@ -4,7 +4,7 @@ docs/FORMATS.md)."""
 import base64
 import re
 
-from .header import HEAD, LARGEST, SIZES
+from .header import HEAD, LARGEST, REQUIREMENT, SIZES
 
 CIPHERS = ("aes-xts-plain64", "aes-cbc-essiv:sha256")
 HASHES = ("sha256", "sha512")
@@ -53,7 +53,7 @@ def segment(found):
         wants(found["encryption"] in CIPHERS and found["sector_size"] in (512, 1024, 2048, 4096))
 
 
-def keyslot(found):
+def keyslot(found, is_own):
     wants(isinstance(found["type"], str))
     if found["type"] == "luks2":
         kdf, af, area = found["kdf"], found["af"], found["area"]
@@ -67,9 +67,10 @@ def keyslot(found):
         if kdf["type"] == "pbkdf2":
             number(kdf["iterations"], 1, MOST_ROUNDS)
         number(found.get("priority", 1), 0, 2)
-    elif found["type"] == "reencrypt":
+    is_conversion = found["type"] == "reencrypt" and is_own
+    if is_conversion:
         conversion(found)
-    if found["type"] in ("luks2", "reencrypt") or "area" in found:
+    if found["type"] == "luks2" or is_conversion or "area" in found:
         extent(found["area"])
 
 
@@ -107,9 +108,21 @@ def config(found):
         texts(found["requirements"]["mandatory"])
 
 
+def owned(config):
+    """Whether no program but ours has put a requirement there, whose keyslots only it could read."""
+    mandatory = config.get("requirements", {}).get("mandatory", [])
+    return all(text == REQUIREMENT for text in mandatory)
+
+
 def check(objects):
     """Raises an error where a member lacks, or isn't what it is to be."""
-    parts = {"segments": segment, "keyslots": keyslot, "digests": digest, "tokens": token}
+    is_own = owned(objects["config"])
+    parts = {
+        "segments": segment,
+        "keyslots": lambda found: keyslot(found, is_own),
+        "digests": digest,
+        "tokens": token,
+    }
     for name, of_one in parts.items():
         for key, found in objects[name].items():
             number_text(key)

@@ -33,14 +33,24 @@ def xts(body, tweak, number, data):
     return found
 
 
+def cbc(body, iv, number, data):
+    """Whole blocks sealed as one sector, block by block (NIST SP 800-38A, section 6.2)."""
+    cipher, found = block_cipher(body), b""
+    last = block_cipher(iv).update(struct.pack("<QQ", number, 0))
+    for at in range(0, len(data), 16):
+        last = cipher.update(xor(data[at : at + 16], last))
+        found += last
+    return found
+
+
 def value(what, words, spelt):
     """The bytes that words tell to be calculated."""
     if what == "seal":
         name, key, sector, number, data = words
         return Side(name, spelt(key), int(sector)).sealed(spelt(data), int(number))
-    if what == "xts":
-        body, tweak, number, data = words
-        return xts(spelt(body), spelt(tweak), int(number), spelt(data))
+    if what in ("xts", "cbc"):
+        body, other, number, data = words
+        return (xts if what == "xts" else cbc)(spelt(body), spelt(other), int(number), spelt(data))
     hash_name, one, other, *numbers = words
     one, other, numbers = spelt(one), spelt(other), [int(number) for number in numbers]
     if what == "hmac":

@@ -16,6 +16,12 @@ def fault(number, name, cause=None):
     return Ended(number, cause or name, f"fault {number} {name}\n")
 
 
+def told_as(ended, word):
+    """An end of which people are told in words of which this is one."""
+    ended.word = word
+    return ended
+
+
 def device(what, faults=1):
     return fault(2, "Device", f"Device {{ failing: {what}, faults: {faults} }}")
 
@@ -36,13 +42,14 @@ def refused(found):
 class Bay:
     """Disks and key files by their names, the 32 bytes that are drawn, what clients at the
     address `A` send, and the numbers of the calls that fail by whose they are. It keeps which
-    disks were opened, the links' sessions, and what a gate was told."""
+    disks were opened, the links' sessions, what a gate was told, and a word of what people are."""
 
     def __init__(self, disks, keys, seed, clients=(), fails_of=lambda _: ()):
         self.disks, self.keys, self.drawn_from = disks, keys, seed
         self.clients, self.fails_of = clients, fails_of
         self.asked = self.faults = 0
         self.opened, self.sessions, self.course = [], [], ""
+        self.word = ""
 
     def answer(self, what, found):
         """What a call of the bay gives; None where it fails."""
@@ -97,9 +104,11 @@ def judge(disk, objects):
         members.check(objects)
         rule = first_broken(objects, Disks(disk.atom, "attached", len(disk.held)))
     except (AttributeError, LookupError, TypeError, ValueError):
-        rule = "a member lacks, or isn't what it is to be"
+        raise told_as(fault(4, "Header"), "JSON fault") from None
+    if rule == "Foreign":
+        raise told_as(fault(7, "Foreign"), rule)
     if rule:
-        raise fault(7, "Foreign") if rule == "Foreign" else fault(4, "Header")
+        raise told_as(fault(4, "Header"), rule)
 
 
 def read_header(disk, what):

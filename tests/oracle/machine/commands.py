@@ -15,6 +15,10 @@ from ..words import Faulty, asked
 from .bay import Ended, device, failing, fault, judge, no_fit, read_header, refused
 from .disk import Both, Failed
 
+# The bytes of the smallest sector of LUKS2.
+SMALLEST_SECTOR = 512
+
+
 # ---- keys
 
 
@@ -27,9 +31,15 @@ def find_key(disk, objects, digests, passphrase):
 
 
 def holds_all(disk, objects):
-    """Refuses a disk behind whose last whole atom bytes of the volume are."""
-    if disk.tail and any(one["size"] == "dynamic" for one in objects["segments"].values()):
+    """Refuses a disk behind whose last whole atom sectors of the volume may be."""
+    if disk.tail >= SMALLEST_SECTOR and any(one["size"] == "dynamic" for one in objects["segments"].values()):
         raise no_fit("Tail", disk.tail, 0)
+
+
+def is_encrypted(objects):
+    """Whether the volume is, of which nothing is being converted (LUKS2 On-Disk Format, section 3.3)."""
+    (live,) = objects["segments"].values()
+    return live["type"] == "crypt"
 
 
 def checked(passphrase):
@@ -67,17 +77,17 @@ def init(bay, asked):
     disk = bay.disk(wish.disk, wish.atom)
     passphrase = bay.passphrase(wish.key_file)
     header = read_header(disk, "Reading")
-    if header.in_progress():
+    if header.in_progress() or not is_encrypted(header.objects):
         raise fault(6, "WrongState")
+    find_key(disk, header.objects, header.objects["digests"].values(), checked(passphrase))
+    with failing("Starting", disk):
+        disk.settle()
+    header = read_header(disk, "Starting")
     digests = header.objects["digests"].values()
-    find_key(disk, header.objects, digests, checked(passphrase))
     held = [slot for digest in digests if digest["segments"] for slot in digest["keyslots"]]
     if len(held) > 1 and not wish.drop_keyslots:
         raise fault(15, "Keyslots")
     holds_all(disk, header.objects)
-    with failing("Starting", disk):
-        disk.settle()
-    header = read_header(disk, "Starting")
     disks, used = steps.Disks(disk.atom, "attached", len(disk.held)), header.used
     draw = begun.draw_of(wish, seed)
     with failing("Starting", disk):
@@ -149,6 +159,11 @@ def status(bay, wish):
 # ---- resume
 
 
+def side_of(segment, key):
+    """How the blocks of an encrypted segment are sealed."""
+    return Side(segment["encryption"], key, segment["sector_size"], int(segment["iv_tweak"]))
+
+
 class Volume:
     """The volume of a header by which a conversion is under way, under the keys of its sides."""
 
@@ -158,7 +173,7 @@ class Volume:
         self.found = steps.Conversion(objects, self.disks)
         self.blocks, self.offset = self.found.blocks, int(self.found.old["offset"])
         wholes = zip((self.found.old, self.found.new), keys)
-        self.old, self.new = (Side(w["encryption"], key, w["sector_size"]) for w, key in wholes)
+        self.old, self.new = (side_of(whole, key) for whole, key in wholes)
 
 
 def find_keys(disk, objects, passphrase):
@@ -255,6 +270,7 @@ def ended_by(bay, words):
         wish = SimpleNamespace(**asked(words))
         COMMANDS[wish.command](bay, wish)
     except Ended as ended:
+        bay.word = getattr(ended, "word", "")
         return ended.args
     except Faulty:
         told = json.dumps(words, ensure_ascii=False)

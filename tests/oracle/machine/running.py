@@ -108,8 +108,9 @@ def run(world, words, is_loose, there):
         return breaks_beside(world, words, there)
     ended, bay = run_on(world, words, disks, world.next.clients)
     lines = [told(ended)]
-    if ended[0] and len(there) > 1 and not OTHERS.match(there[1]):
-        lines.append(there[1])
+    why = there[1] if ended[0] and len(there) > 1 and not OTHERS.match(there[1]) else ""
+    if why or bay.word:
+        lines.append(why if bay.word in why else f"{bay.word} ..")
     lines += said(there)
     if bay.course and not is_loose:
         lines.append(bay.course)

@@ -3,11 +3,19 @@ another, and a conversion is led to its end behind them. What is read and writte
 goes by pieces of at most 1 MiB on one side (docs/CONVERSION.md)."""
 
 from ..conversion.zones import Led
-from ..luks.ciphers import UNIT, Side
+from ..luks.ciphers import UNIT
 from ..luks.header import Header
 from ..nbd import server as nbd
 from .bay import Ended, device, failing, fault, no_fit, read_header
-from .commands import COMMANDS, checked, find_key, led_to_its_end, taken_up
+from .commands import (
+    COMMANDS,
+    checked,
+    find_key,
+    is_encrypted,
+    led_to_its_end,
+    side_of,
+    taken_up,
+)
 from .disk import Failed
 
 PIECE = 1048576
@@ -96,7 +104,9 @@ class OnDisk(nbd.Session):
 
 def opened_idle(disk, header, passphrase):
     """Opens a volume of which nothing is being converted by the header that was read."""
-    key = find_key(disk, header.objects, header.objects["digests"].values(), checked(passphrase))
+    passphrase, key = checked(passphrase), None
+    if is_encrypted(header.objects):
+        key = find_key(disk, header.objects, header.objects["digests"].values(), passphrase)
     with failing("Starting", disk):
         disk.settle()
         header = Header(disk)
@@ -105,7 +115,9 @@ def opened_idle(disk, header, passphrase):
     blocks = (disk.atom * len(disk.held) - int(live["offset"])) // disk.atom
     if live["size"] != "dynamic":
         blocks = int(live["size"]) // disk.atom
-    side = Side(live["encryption"], key, live["sector_size"], int(live["iv_tweak"]))
+    side = Plain()
+    if key:
+        side = side_of(live, key)
     return Blocks(disk, int(live["offset"]), [(blocks, side)])
 
 
