@@ -115,7 +115,7 @@ refuses_header() {
 refuses_header "2 fault 2 Device reencd: missing: No such file or directory" missing
 truncate -s 16773120 short.img
 refuses_header \
-    "8 fault 8 NoFit reencd: no room in the header's keyslots area: 16777216 bytes are wanted at one place, and there are 16773120 (less --hotzone-size, or a volume with a larger --data-offset)" short.img
+    "8 fault 8 NoFit reencd: no room in the header's keyslots area: 16777216 bytes are wanted at one place, and there are 16773120 (a larger --data-offset, or a longer disk of the header, gives more)" short.img
 cmp -n 16773120 short.img /dev/zero || fail "the disk of the header was written"
 refuses_header "2 fault 2 Device reencd: refused.img: locked by another process" refused.img
 ln -sf refused.img same.img
@@ -175,7 +175,7 @@ PYTHON
 echo "a header whose first copy lacks is found at its size, and mended"
 
 # what doesn't fit, and what is not there
-refuses "8 fault 8 NoFit reencd: no room in the header's keyslots area: 258048 bytes are wanted at one place, and there are 0 (less --hotzone-size, or a volume with a larger --data-offset)" \
+refuses "8 fault 8 NoFit reencd: no room in the header's keyslots area: 258048 bytes are wanted at one place, and there are 0 (a larger --data-offset, or a longer disk of the header, gives more)" \
     --key-file key --data-offset 32768
 refuses "8 fault 8 NoFit reencd: the key file has no byte, and a passphrase has 1 to 512" --key-file /dev/null
 head -c 600 /dev/zero >long

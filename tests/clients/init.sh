@@ -168,7 +168,7 @@ refuses() {
 # what stands in the way
 cp before.img idle.img
 "$reencd" format idle.img --key-file key --iterations 1000 --data-offset 294912 >/dev/null || fail "format"
-refuses "8 fault 8 NoFit reencd: no room in the header's keyslots area: 258048 bytes are wanted at one place, and there are 4096 (less --hotzone-size, or a volume with a larger --data-offset)" idle.img --key-file key
+refuses "8 fault 8 NoFit reencd: no room in the header's keyslots area: 258048 bytes are wanted at one place, and there are 4096 (for the zones, of which a smaller --hotzone-size asks for less, or for the new keyslot, of which a smaller --key-size does)" idle.img --key-file key
 refuses "5 fault 5 NoKey reencd: the passphrase opens no keyslot; slot 0: it holds no key of the volume under this passphrase" idle.img --key-file other
 refuses "8 fault 8 NoFit reencd: the key file has no byte, and a passphrase has 1 to 512" idle.img --key-file /dev/null
 refuses "2 fault 2 Device reencd: missing: No such file or directory" idle.img --key-file missing

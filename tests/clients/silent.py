@@ -1,5 +1,5 @@
 #!/usr/bin/env python3
-"""Clients that say nothing, or stay, or come in great numbers: `silent.py WHAT PORT`."""
+"""Clients that say or take nothing, or stay, or come in great numbers: `silent.py WHAT PORT`."""
 
 import socket
 import struct
@@ -7,21 +7,60 @@ import sys
 import threading
 import time
 
-from client import Client
+from client import READ, Client, request
 
 
-def gone_after(port, sent):
-    """The seconds after which the server has dropped a client that sends these pieces, one a second."""
+FLAGS = struct.pack(">I", 3)
+
+
+def option(kind, data=b""):
+    return b"IHAVEOPT" + struct.pack(">II", kind, len(data)) + data
+
+
+LIST = option(3)
+INFO = option(6, struct.pack(">IH", 0, 0))
+
+
+def silent(_client):
+    """It sends nothing."""
+
+
+def slow(client):
+    """It sends a byte a second of an option that is longer than the time."""
+    client.sendall(FLAGS)
+    for byte in option(7, bytes(60)):
+        client.sendall(bytes([byte]))
+        time.sleep(1)
+
+
+def deaf(client):
+    """It sends options for ever, and takes none of the answers."""
+    client.sendall(FLAGS)
+    while True:
+        client.sendall(INFO * 64)
+
+
+def curious(client):
+    """It asks for the exports for ever, and takes each answer. (It does so a hundred times a second: a
+    session has 65536 options.)"""
+    client.sendall(FLAGS)
+    while client.recv(4096):
+        client.sendall(LIST)
+        time.sleep(0.01)
+
+
+def gone_after(port, act):
+    """The seconds after which the server has dropped a client that does this. Its window is small, so that
+    the server soon can't send it more."""
     begun = time.monotonic()
-    with socket.create_connection(("127.0.0.1", port), timeout=60) as silent:
-        for piece in sent:
-            try:
-                silent.sendall(piece)
-            except OSError:
-                break
-            time.sleep(1)
+    with socket.socket() as client:
+        client.settimeout(60)
+        client.setsockopt(socket.IPPROTO_TCP, socket.TCP_MAXSEG, 536)
+        client.setsockopt(socket.SOL_SOCKET, socket.SO_RCVBUF, 4096)
+        client.connect(("127.0.0.1", port))
         try:
-            while silent.recv(4096):
+            act(client)
+            while client.recv(4096):
                 pass
         except OSError:
             pass
@@ -29,27 +68,48 @@ def gone_after(port, sent):
 
 
 def negotiation(port):
-    """Two clients that never come through the negotiation: the one silent, the other slow. A third is met
-    once they are gone."""
-    option = b"IHAVEOPT" + struct.pack(">II", 7, 60) + bytes(60)
-    slow = [struct.pack(">I", 3)] + [bytes([byte]) for byte in option]
-    seconds = []
-    threads = [
-        threading.Thread(target=lambda sent=sent: seconds.append(gone_after(port, sent)))
-        for sent in ([], slow)
-    ]
+    """Four clients that never come through the negotiation, side by side, beside one that does and then says
+    nothing for longer: it is served on. The server has five workers: a sixth client is met once one of the
+    four is gone."""
+    seconds = {}
+
+    def time_of(act):
+        seconds[act.__name__] = gone_after(port, act)
+
+    threads = [threading.Thread(target=time_of, args=(act,)) for act in (silent, slow, deaf, curious)]
+    patient = Client(port, timeout=60)
+    begun = time.monotonic()
     for thread in threads:
         thread.start()
     time.sleep(0.5)
-    begun = time.monotonic()
     last = Client(port, timeout=60)
-    waited = time.monotonic() - begun
+    seconds["the sixth"] = time.monotonic() - begun
     last.disconnect()
     for thread in threads:
         thread.join()
-    for took in [*seconds, waited]:
-        assert 25 < took < 45, (seconds, waited)
-    print("both were dropped, and a third was met")
+    for took in seconds.values():
+        assert 25 < took < 40, seconds
+    time.sleep(max(0, begun + 31.5 - time.monotonic()))
+    assert patient.read(0, 512) == bytes(512)
+    patient.disconnect()
+    print("four were dropped, a sixth was met, and the one that was through is served on")
+
+
+def unread(port):
+    """A client that asks for more than it takes, of a server that is patient for a second."""
+    client = Client(port, timeout=30)
+    for cookie in range(8):
+        client.socket.sendall(request(READ, cookie, 0, 1 << 20))
+    begun = time.monotonic()
+    time.sleep(4)
+    taken = 0
+    try:
+        while part := client.socket.recv(1 << 20):
+            taken += len(part)
+    except OSError:
+        pass
+    assert time.monotonic() - begun < 20
+    print("dropped" if taken < 8 << 20 else "served")
 
 
 def idle(port):

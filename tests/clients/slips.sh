@@ -88,8 +88,30 @@ done
 echo "== the end of a volume"
 truncate -s $((size + 1536)) tailed.img
 "$reencd" format tailed.img --key-file key --iterations 1000 --atom 512 >/dev/null 2>&1 || fail "format by 512"
-keeps tailed.img 8 "fault 8 NoFit" "--atom 512" init tailed.img --key-file key --iterations 1000
-grep -q 1536 err || fail "init doesn't say how many bytes: $(cat err)"
+tail_cure="lengthen the disk to whole atoms, or take --atom 512, where sectors have 512 bytes and the disk writes 512 bytes whole"
+keeps tailed.img 8 "fault 8 NoFit" "tail: the disk has 1536 bytes behind its last whole atom, which a conversion wouldn't reach: $tail_cure" \
+    init tailed.img --key-file key --iterations 1000
+# (100 bytes more are no sector, so that the cure is the same)
+cp tailed.img ragged.img
+truncate -s $((size + 1636)) ragged.img
+keeps ragged.img 8 "fault 8 NoFit" "tail: the disk has 1636 bytes behind its last whole atom, which a conversion wouldn't reach: $tail_cure" \
+    init ragged.img --key-file key --iterations 1000
+"$reencd" init ragged.img --key-file key --iterations 1000 --atom 512 >out 2>err || fail "init by 512: $(cat err)"
+# (fewer than 512 bytes hold no sector)
+cp volume.img frayed.img
+truncate -s $((size + 511)) frayed.img
+"$reencd" init frayed.img --key-file key --iterations 1000 >out 2>err || fail "init beside 511 bytes: $(cat err)"
+"$reencd" resume frayed.img --key-file key >out 2>err || fail "resume beside 511 bytes: $(cat err)"
+# (a disk that was lengthened under a conversion)
+cp begun.img grown.img
+truncate -s $((size + 1536)) grown.img
+for words in "resume grown.img" "serve grown.img --listen stdio" "serve grown.img --listen stdio --no-worker"; do
+    # shellcheck disable=SC2086
+    keeps grown.img 8 "fault 8 NoFit" "tail: the disk has 1536 bytes behind its last whole atom, which a conversion wouldn't reach: give it the size that it had when the conversion was begun, or whole atoms by a loop device (\`losetup --sizelimit\`)" \
+        $words --key-file key
+done
+truncate -s $size grown.img
+"$reencd" resume grown.img --key-file key >out 2>err || fail "resume of the disk as it was: $(cat err)"
 cp tailed.img begun_by_512.img
 "$reencd" init begun_by_512.img --key-file key --iterations 1000 --atom 512 >/dev/null 2>&1 || fail "init by 512"
 # (by atoms of 4096 bytes the volume that is being converted passes the last whole one)
@@ -120,9 +142,24 @@ if command -v cryptsetup >/dev/null; then
     for part in aes-cbc-essiv:sha256 aes-xts-plain64 4096 512 2000 1000; do
         grep -q -- "$part" err || fail "init doesn't say $part: $(cat err)"
     done
+
+    echo "== cryptsetup beside a server"
+    serve_by led.img --key-file key
+    timeout 2 cryptsetup luksDump led.img >out 2>err
+    expect "luksDump of a file that is served, for two seconds" "$?" 124
+    cryptsetup --disable-locks luksDump led.img >out 2>err || fail "luksDump --disable-locks: $(cat err)"
+    "$reencd" status led.img >out 2>err || fail "status of a file that is served: $(cat err)"
+    stop TERM
 else
     echo "skipped: there is no cryptsetup"
 fi
+
+echo "== a header on a disk of its own"
+truncate -s $size apart.img
+truncate -s 16M header.img
+"$reencd" format apart.img --header header.img --key-file key --iterations 1000 >out 2>err || fail "format --header: $(cat err)"
+keeps header.img 4 "fault 4 Header" "a detached header, a header backup" status header.img
+keeps apart.img 3 "fault 3 NoHeader" "primary: Magic; secondary: Magic" status apart.img
 
 echo "== devices in use"
 truncate -s $size whole.img
@@ -179,10 +216,11 @@ done
 
 echo "== clients that say nothing"
 truncate -s 1M plain.img
-serve_by plain.img --plain --atom 512 --workers 2
+serve_by plain.img --plain --atom 512 --workers 5
 expect "clients that don't negotiate" "$(python3 "$here/silent.py" negotiation "$port")" \
-    "both were dropped, and a third was met"
-expect "lines of it" "$(grep -c ': dropped, not through the negotiation within 30 seconds$' stderr)" 2
+    "four were dropped, a sixth was met, and the one that was through is served on"
+expect "lines of it" "$(grep -c ': dropped, not through the negotiation within 30 seconds$' stderr)" 3
+expect "lines of one that takes no answers" "$(grep -c ': dropped, it takes no answers$' stderr)" 1
 expect "a client that is silent" "$(python3 "$here/silent.py" idle "$port")" served
 expect "lines of clients without --verbose" "$(grep -c 'connected\|gone' stderr)" 0
 stop TERM
@@ -192,6 +230,13 @@ stop TERM
 expect "lines of it" "$(sed -n 's/^reencd: 127.0.0.1:[0-9]*: //p' stderr)" "connected
 dropped, silent for 1 seconds
 gone"
+truncate -s 8M unread.img
+serve_by unread.img --plain --atom 512 --idle-timeout 1 --workers 1
+expect "a client that takes nothing" "$(python3 "$here/silent.py" unread "$port")" dropped
+expect "and the next one" "$(python3 "$here/silent.py" idle "$port")" dropped
+stop TERM
+expect "lines of them" "$(sed -n 's/^reencd: 127.0.0.1:[0-9]*: //p' stderr)" "dropped, it takes no answers
+dropped, silent for 1 seconds"
 serve_by plain.img --plain --atom 512 --workers 4
 expect "many clients beside one that stays" "$(python3 "$here/silent.py" many "$port")" "41 were met"
 stop TERM
@@ -202,6 +247,11 @@ if command -v prlimit >/dev/null && serve_by plain.img --plain --atom 512 --work
     stop TERM
 fi
 tracer=()
+if command -v prlimit >/dev/null; then
+    prlimit --nofile=6 "$reencd" serve plain.img --plain --atom 512 --listen 127.0.0.1:0 >out 2>err </dev/null
+    expect "too few descriptors to begin" "$? $(cat out) $(cat err)" \
+        "2 fault 2 Device reencd: 127.0.0.1:0: Too many open files"
+fi
 
 echo "== a disk that is full"
 mkdir small
@@ -288,7 +338,7 @@ if command -v cryptsetup >/dev/null; then
     luks --type luks2 --pbkdf argon2id --pbkdf-force-iterations 4 --pbkdf-memory 64 --pbkdf-parallel 1
     keeps other.img 5 "fault 5 NoKey" "luksConvertKey --pbkdf pbkdf2" serve other.img --key-file key --listen stdio
     luks --type luks2 --pbkdf pbkdf2 --pbkdf-force-iterations 1000 --cipher aes-xts-plain
-    keeps other.img 4 "fault 4 Header" "aes-xts-plain" status other.img
+    keeps other.img 4 "fault 4 Header" "segments/0/encryption of its first copy is aes-xts-plain" status other.img
     luks --type luks2 --pbkdf pbkdf2 --pbkdf-force-iterations 1000 --sector-size 4096
     keeps other.img 4 "fault 4 Header" "another --atom" serve other.img --key-file key --atom 512 --listen stdio
     rm -f backup.img

@@ -80,7 +80,7 @@ def cut(number, refused, stood, length):
 def judged(text, more):
     """How many operations and how many sessions wanted memory, and how many conversions."""
     wanted = [0, 0, 0]
-    runs = re.split(r"^(?=loose )", text, flags=re.M)[1:]
+    runs = re.split(r"^(?=loose serve .* --workers 16 )", text, flags=re.M)[1:]
     if len(runs) != 2:
         raise SystemExit(f"failed: {more}: {text[:300]}")
     for run in runs:
