@@ -24,7 +24,7 @@ use Rattle.volume_machine.specs.Readings.{Reading}
 use Rattle.volume_machine.specs.Seals.{Seals}
 use Rattle.volume_machine.specs.States.{State}
 use Rattle.volume_machine.specs.declared.keys.Keys.{Keys}
-use Rattle.zone_events.specs.Readings.{reading_of}
+use Rattle.hotzone.specs.ZoneEvents.Readings.{reading_of}
 use Rattle.block_server.specs.Leading.{AreRejoined, HasLed, accounts_of, end_of}
 use Rattle.block_server.specs.Leaving.{IsLeftOf}
 use Rattle.block_server.specs.Passing.{KnowsAll, account_of}

@@ -33,7 +33,7 @@ use Rattle.volume_machine.specs.Runs.{no_plain}
 use Rattle.volume_machine.specs.States.{IsClient, State, open_at, size_of}
 use Rattle.volume_machine.specs.declared.keys.Keys.{Keys}
 use Rattle.volume_machine.specs.declared.open.Open.{Open}
-use Rattle.zone_events.specs.Readings.{reading_of}
+use Rattle.hotzone.specs.ZoneEvents.Readings.{reading_of}
 use Rattle.block_server.specs.Leading.{HasLed, end_of}
 use Rattle.block_server.specs.Links.{AreServed, IsServed}
 use Rattle.block_server.specs.Merging.{AreOfLane}

@@ -22,7 +22,7 @@ use Rattle.volume_machine.specs.Deeds.{Deed}
 use Rattle.volume_machine.specs.Seals.{Seals}
 use Rattle.volume_machine.specs.States.{IsClient, State, open_at, size_of}
 use Rattle.volume_machine.specs.declared.open.Open.{Open}
-use Rattle.zone_events.specs.Readings.{reading_of}
+use Rattle.hotzone.specs.ZoneEvents.Readings.{reading_of}
 
 -- what is known by a pass of a volume with such keys
 abbrev pub VolumeKnowledge : Type 0 → Type 0

@@ -2,10 +2,10 @@
 use Rattle.std.specs.Prelude.{ℕ, ◌≡◌, ◌%◌, ◌≤◌, ◌==◌, ◌&&◌, ◌||◌, Bool, true, List, codes}
 use Rattle.std.specs.Prelude.{Option, Some, None, if◌then◌else◌}
 use Rattle.clap.specs.Walk.{Row, Text, first_of}
-use Rattle.luks_json.specs.Names.{cipher_named}
-use Rattle.luks_json.specs.Segments.{is_sector_size}
-use Rattle.luks_json.specs.declared.names.Cipher.{Cipher}
-use Rattle.luks_json.specs.declared.names.Cipher.TheVariants.{AesXtsPlain64, AesCbcEssivSha256}
+use Rattle.luks_meta.specs.Names.{cipher_named}
+use Rattle.luks_meta.specs.Segments.{is_sector_size}
+use Rattle.luks_meta.specs.declared.names.Cipher.{Cipher}
+use Rattle.luks_meta.specs.declared.names.Cipher.TheVariants.{AesXtsPlain64, AesCbcEssivSha256}
 use Rattle.command_line.specs.Values.{◌>>=◌, number_or}
 use Rattle.command_line.specs.declared.segment.NewSegment.{NewSegment}
 

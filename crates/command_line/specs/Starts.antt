@@ -3,9 +3,9 @@ use Rattle.std.specs.Prelude.{ℕ, ◌≡◌, ◌%◌, ◌<◌, ◌≤◌, ◌==
 use Rattle.std.specs.Prelude.{Option, Some, None, if◌then◌else◌}
 use Rattle.std.specs.Str.{bytes_eq}
 use Rattle.clap.specs.Walk.{Row, Text, first_of}
-use Rattle.luks_json.specs.Reencrypts.{direction_named}
-use Rattle.luks_json.specs.declared.reencrypt.Direction.{Direction}
-use Rattle.luks_json.specs.declared.reencrypt.Direction.TheVariants.{Forward}
+use Rattle.luks_meta.specs.Reencrypts.{direction_named}
+use Rattle.luks_meta.specs.declared.reencrypt.Direction.{Direction}
+use Rattle.luks_meta.specs.declared.reencrypt.Direction.TheVariants.{Forward}
 use Rattle.command_line.specs.Segments.{IsNewSegment, segment_by}
 use Rattle.command_line.specs.Values.{◌>>=◌, IsAtomSize, atom_or_default, is_given, is_set, is_true}
 use Rattle.command_line.specs.Values.{number_or}

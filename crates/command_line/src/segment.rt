@@ -12,11 +12,11 @@ ghost use Rattle.command_line.specs.Segments.{
   segment_in,
 };
 ghost use Rattle.command_line.specs.Values.{Reads};
-ghost use Rattle.luks_json.specs.Segments.{is_sector_size};
+ghost use Rattle.luks_meta.specs.Segments.{is_sector_size};
 
 use crate::values::{Refused, number_or, text_of};
 use clap::ArgMatches;
-use luks_json::Cipher;
+use luks_meta::Cipher;
 
 /// How the data of a new segment are encrypted, and how the passphrase opens their key.
 #[derive(Clone, Copy)]

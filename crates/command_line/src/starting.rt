@@ -14,12 +14,12 @@ ghost use Rattle.command_line.specs.Starts.{
   starting_in,
 };
 ghost use Rattle.command_line.specs.Values.{IsAtomSize, Reads};
-ghost use Rattle.luks_json.specs.Reencrypts.{direction_named};
+ghost use Rattle.luks_meta.specs.Reencrypts.{direction_named};
 
 use crate::segment::{NewSegment, read_segment};
 use crate::values::{Refused, atom_or_default, is_given, is_set, number_or, required, text_of};
 use clap::ArgMatches;
-use luks_json::Direction;
+use luks_meta::Direction;
 
 /// What keeps the open zone of a conversion safe.
 #[derive(Clone, Copy, PartialEq, Eq)]

@@ -23,8 +23,8 @@ use Rattle.volume_machine.specs.Beginnings.{IsFresh, new_volume}
 use Rattle.volume_machine.specs.Sound.{IsSound, MapFits}
 use Rattle.volume_machine.specs.States.{State}
 use Rattle.volume_machine.specs.declared.keys.Keys.{Keys}
-use Rattle.zone_events.proofs.GroundLemmas.{busy-of}
-use Rattle.zone_events.specs.Promises.{IsLaneFree}
+use Rattle.hotzone.proofs.ZoneEvents.GroundLemmas.{busy-of}
+use Rattle.hotzone.specs.ZoneEvents.Promises.{IsLaneFree}
 
 -- ---- the header at hand
 -- a conversion is under way by it

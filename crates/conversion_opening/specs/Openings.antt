@@ -21,8 +21,8 @@ use Rattle.volume_machine.specs.Beginnings.{new_volume}
 use Rattle.volume_machine.specs.States.{State}
 use Rattle.volume_machine.specs.Works.{converting, resting}
 use Rattle.volume_machine.specs.declared.keys.Keys.{Keys}
-use Rattle.zone_events.specs.Heads.{header_on}
-use Rattle.zone_events.specs.Works.{layout_for}
+use Rattle.hotzone.specs.ZoneEvents.Heads.{header_on}
+use Rattle.hotzone.specs.ZoneEvents.Works.{layout_for}
 use Rattle.image_laws.specs.Led.Holding.{TellsLawfully}
 
 -- ---- a header that passed all checks

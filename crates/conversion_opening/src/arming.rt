@@ -11,7 +11,7 @@ ghost use Rattle.sector_disk.specs.Geometry.{IsDisk};
 ghost use Rattle.volume_core.specs.Zones.{IsReadBy};
 ghost use Rattle.volume_laws.specs.Converting.{IsInOrder};
 ghost use Rattle.volume_machine.specs.Sound.{IsSound};
-ghost use Rattle.zone_events.specs.Readings.{reading_of};
+ghost use Rattle.hotzone.specs.ZoneEvents.Readings.{reading_of};
 
 use cipher_laws::SectorCipher;
 use luks_store::Loaded;

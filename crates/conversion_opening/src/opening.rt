@@ -13,7 +13,7 @@ ghost use Rattle.reenc_recovery.specs.Calls.{RepairFits};
 ghost use Rattle.volume_core.specs.Zones.{IsReadBy};
 ghost use Rattle.volume_laws.specs.Converting.{IsInOrder};
 ghost use Rattle.volume_machine.specs.Sound.{IsSound};
-ghost use Rattle.zone_events.specs.Readings.{reading_of};
+ghost use Rattle.hotzone.specs.ZoneEvents.Readings.{reading_of};
 ghost use Rattle.image_laws.specs.Led.Holding.{TellsLawfully};
 
 use crate::arming::arm_volume;

@@ -9,7 +9,7 @@ ghost use Rattle.luks_rules.specs.States.{IsSound};
 
 use crate::fault::ConversionCause;
 use cipher_laws::SectorCipher;
-use luks_json::Resilience;
+use luks_meta::Resilience;
 use luks_rules::{Progress, Valid};
 use reenc_recovery::{OpenCause, SideKeys, first_number, segment_cipher};
 use sector_cipher::Context;

@@ -4,7 +4,7 @@ use Rattle.std.proofs.Common.{Result}
 use Rattle.std.proofs.Common.{Ok, Err, ap, ap₂, refl, sym, length, map, take, slice_index_or}
 use Rattle.std.proofs.Common.{append-nil, append_assoc}
 use Rattle.std.proofs.lemmas.List.{map_push, take_more}
-use Rattle.luks_json.specs.declared.keyslot.Keyslot.{Keyslot}
+use Rattle.luks_meta.specs.declared.keyslot.Keyslot.{Keyslot}
 use Rattle.header_report.specs.Reports.{identifier, slot_line, text_of_lines}
 use Rattle.uuid.specs.Text.{parsed}
 use Rattle.std.specs.Prelude.{IfOk, slice_index, string_bytes}

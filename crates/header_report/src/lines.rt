@@ -1,7 +1,7 @@
 ghost use Rattle.std.specs.Prelude.{◌≡◌, ◌++◌, ◌∷◌, [], IfOk, codes, map, option_map};
 ghost use Rattle.std.specs.Prelude.{string_bytes};
 ghost use Rattle.uuid.specs.Text.{hyphenated_text, lower};
-ghost use Rattle.luks_json.specs.Reencrypts.{area_type_name};
+ghost use Rattle.luks_meta.specs.Reencrypts.{area_type_name};
 ghost use Rattle.header_report.specs.Reports.{
   boundary,
   boundary_line,
@@ -16,7 +16,7 @@ ghost use Rattle.header_report.specs.Reports.{
   zone_line,
 };
 
-use luks_json::{Derivation, Direction, Keyslot, Resilience};
+use luks_meta::{Derivation, Direction, Keyslot, Resilience};
 use luks_rules::{Extent, Plan, Progress};
 use std::alloc::{AllocError, Global};
 use uuid::Uuid;

@@ -14,7 +14,7 @@ ghost use Rattle.header_report.specs.Reports.{
 use crate::lines::{
     boundary_line, segment_line, seqid_line, slot_line, state_line, uuid_line, zone_line,
 };
-use luks_json::Keyslot;
+use luks_meta::Keyslot;
 use luks_rules::{Idle, Progress, Valid};
 use luks_store::Loaded;
 use std::alloc::{AllocError, Global};

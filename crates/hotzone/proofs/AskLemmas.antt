@@ -28,9 +28,9 @@ use Rattle.hotzone.specs.declared.worker.NextHeader.{NextHeader}
 use Rattle.hotzone.specs.declared.worker.Wipes.{Wipes}
 use Rattle.hotzone.specs.declared.worker.Worker.{Worker}
 use Rattle.sector_disk.specs.JoinedDisks.Counts.{HasSizes}
-use Rattle.luks_json.specs.declared.reencrypt.Resilience.{Resilience}
-use Rattle.luks_json.specs.declared.reencrypt.Resilience.TheVariants.{Journal, Checksum, Datashift}
-use Rattle.luks_json.specs.declared.meta.Parts.{Parts}
+use Rattle.luks_meta.specs.declared.reencrypt.Resilience.{Resilience}
+use Rattle.luks_meta.specs.declared.reencrypt.Resilience.TheVariants.{Journal, Checksum, Datashift}
+use Rattle.luks_meta.specs.declared.meta.Parts.{Parts}
 use Rattle.luks_rules.specs.Areas.{areas_end, areas_of}
 use Rattle.luks_rules.specs.Rooms.{capacity}
 use Rattle.luks_rules.specs.Shapes.{may_open, progress_of}

@@ -3,8 +3,8 @@ use Rattle.std.proofs.Common.{◌≡◌, ◌∙◌, ℕ, ◌+◌, ◌≤◌}
 use Rattle.std.proofs.Common.{refl, sym, ap, arith}
 use Rattle.base_terms.specs.declared.disk_sizes.Sizes.{Sizes}
 use Rattle.hotzone.proofs.HeadingLemmas.{progress_behind}
-use Rattle.luks_json.specs.declared.reencrypt.Direction.{Direction as order}
-use Rattle.luks_json.specs.declared.reencrypt.Direction.TheVariants as orders
+use Rattle.luks_meta.specs.declared.reencrypt.Direction.{Direction as order}
+use Rattle.luks_meta.specs.declared.reencrypt.Direction.TheVariants as orders
 use Rattle.luks_rules.specs.Plans.{blocks_in}
 use Rattle.luks_rules.specs.declared.plan.Plan.{Plan}
 use Rattle.luks_rules.specs.declared.shape.Progress.{Progress}

@@ -6,7 +6,7 @@ use Rattle.hotzone.specs.Endings.{HasZeros, IsEnding, IsFinishing, wiped}
 use Rattle.hotzone.specs.declared.worker.Wipes.{Wipes}
 use Rattle.luks_store.specs.Copying.Held.{stage_in}
 use Rattle.luks_store.specs.declared.header_copies.commit.Stage.TheVariants.{Begun}
-use Rattle.luks_json.specs.declared.meta.Parts.{Parts}
+use Rattle.luks_meta.specs.declared.meta.Parts.{Parts}
 use Rattle.luks_rules.specs.Shapes.{progress_of}
 use Rattle.luks_rules.specs.declared.shape.Progress.{Progress}
 use Rattle.luks_rules.specs.declared.valid.Checked.{Checked}

@@ -20,8 +20,8 @@ use Rattle.hotzone.specs.declared.scratch.Scratch.{Scratch}
 use Rattle.hotzone.specs.declared.site.Guard.{Guard}
 use Rattle.hotzone.specs.declared.site.Guard.TheVariants as guards
 use Rattle.hotzone.specs.declared.site.Site.{Site}
-use Rattle.luks_json.specs.declared.reencrypt.Resilience.{Resilience}
-use Rattle.luks_json.specs.declared.reencrypt.Resilience.TheVariants.{Journal, Checksum, Datashift}
+use Rattle.luks_meta.specs.declared.reencrypt.Resilience.{Resilience}
+use Rattle.luks_meta.specs.declared.reencrypt.Resilience.TheVariants.{Journal, Checksum, Datashift}
 use Rattle.luks_rules.specs.Rooms.{capacity_by}
 use Rattle.resil_checksum.specs.Digests.{saved_len}
 use Rattle.sector_disk.specs.Geometry.{IsAtom}

@@ -35,7 +35,7 @@ use Rattle.luks_store.specs.Copying.Steps.{next_of}
 use Rattle.luks_store.specs.declared.header_copies.commit.Stage.TheVariants.{Begun, FirstWritten, FirstKept}
 use Rattle.luks_store.specs.declared.header_copies.commit.Stage.TheVariants.{SecondWritten, Ended}
 use Rattle.luks_store.specs.declared.header_copies.commit.Stage.{Stage}
-use Rattle.luks_json.specs.declared.meta.Parts.{Parts}
+use Rattle.luks_meta.specs.declared.meta.Parts.{Parts}
 use Rattle.luks_store.proofs.GivenLemmas.{sized-by}
 use Rattle.luks_store.specs.Commits.{IsNext}
 use Rattle.luks_store.specs.Loads.{IsStored}

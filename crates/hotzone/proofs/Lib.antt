@@ -26,3 +26,4 @@ pub mod GuardLemmas
 pub mod CompareLemmas
 pub mod KeptLemmas
 pub mod LaidLemmas
+pub mod ZoneEvents

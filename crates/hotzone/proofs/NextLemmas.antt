@@ -5,7 +5,7 @@ use Rattle.base_terms.specs.declared.disk_sizes.Sizes.{Sizes}
 use Rattle.hotzone.proofs.SiteLemmas.{store-within}
 use Rattle.hotzone.specs.Workers.{IsNextZone}
 use Rattle.hotzone.specs.declared.site.Site.{Site}
-use Rattle.luks_json.specs.declared.meta.Parts.{Parts}
+use Rattle.luks_meta.specs.declared.meta.Parts.{Parts}
 use Rattle.luks_rules.specs.Shapes.{progress_of}
 use Rattle.luks_rules.specs.States.{IsSound}
 use Rattle.luks_rules.specs.declared.shape.Progress.{Progress}

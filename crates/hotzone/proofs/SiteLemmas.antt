@@ -8,8 +8,8 @@ use Rattle.sector_disk.proofs.DiskViews.Blockwise.{blocks_end}
 use Rattle.std.specs.List.{All, cons_option}
 use Rattle.hotzone.specs.Sites.{count_of, next_count, next_start, site_by, start_by}
 use Rattle.hotzone.specs.declared.site.Guard.{Guard}
-use Rattle.luks_json.specs.declared.keyslot.Keyslot.{Keyslot}
-use Rattle.luks_json.specs.declared.keyslot.Keyslot.TheVariants as keyslots
+use Rattle.luks_meta.specs.declared.keyslot.Keyslot.{Keyslot}
+use Rattle.luks_meta.specs.declared.keyslot.Keyslot.TheVariants as keyslots
 use Rattle.luks_rules.specs.Areas.{area_of, areas_of}
 use Rattle.luks_rules.specs.Conversions.{conversion_of, conversions_of}
 use Rattle.luks_rules.specs.declared.areas.Area.{Area}

@@ -4,7 +4,7 @@ use Rattle.hotzone.specs.Headings.{IsUnmade, fault_of}
 use Rattle.luks_store.specs.Copying.Steps.{last_seqid}
 use Rattle.luks_store.specs.declared.header_copies.commit.CommitError.{CommitError}
 use Rattle.luks_store.specs.declared.header_copies.commit.CommitError.TheVariants as errors
-use Rattle.luks_json.specs.declared.meta.Parts.{Parts}
+use Rattle.luks_meta.specs.declared.meta.Parts.{Parts}
 use Rattle.luks_store.specs.Commits.{IsRefused, text_for}
 use Rattle.luks_store.specs.declared.loaded.Stored.{Stored}
 

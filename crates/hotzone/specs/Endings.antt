@@ -10,8 +10,8 @@ use Rattle.hotzone.specs.declared.worker.NextCall.TheVariants.{Wipe, Rest}
 use Rattle.hotzone.specs.declared.worker.Wipes.{Wipes}
 use Rattle.luks_store.specs.Copying.Held.{stage_in}
 use Rattle.luks_store.specs.declared.header_copies.commit.Stage.TheVariants.{Begun}
-use Rattle.luks_json.specs.declared.keyslot.Keyslot.{Keyslot}
-use Rattle.luks_json.specs.declared.meta.Parts.{Parts}
+use Rattle.luks_meta.specs.declared.keyslot.Keyslot.{Keyslot}
+use Rattle.luks_meta.specs.declared.meta.Parts.{Parts}
 use Rattle.luks_rules.specs.Areas.{areas_of}
 use Rattle.luks_rules.specs.Shapes.{progress_of}
 use Rattle.luks_rules.specs.declared.areas.Area.{Area}

@@ -10,7 +10,7 @@ use Rattle.luks_store.specs.Copying.Steps.{last_seqid, longest_text}
 use Rattle.luks_store.specs.declared.header_copies.commit.CommitError.{CommitError}
 use Rattle.luks_store.specs.declared.header_copies.commit.CommitError.TheVariants as errors
 use Rattle.luks_store.specs.declared.header_copies.commit.Stage.TheVariants.{Begun}
-use Rattle.luks_json.specs.declared.meta.Parts.{Parts}
+use Rattle.luks_meta.specs.declared.meta.Parts.{Parts}
 use Rattle.luks_rules.specs.Shapes.{progress_of}
 use Rattle.luks_rules.specs.declared.shape.Progress.{Progress}
 use Rattle.luks_store.specs.Commits.{committed, text_for, IsNext, IsNextStored}

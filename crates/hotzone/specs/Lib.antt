@@ -7,3 +7,4 @@ pub mod Laid
 pub mod Making
 pub mod Known
 pub mod Promises
+pub mod ZoneEvents

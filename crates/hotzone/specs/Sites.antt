@@ -5,8 +5,8 @@ use Rattle.crash_laws.specs.HotZones.Zones.{Resilience as Kind, journal, checksu
 use Rattle.hotzone.specs.declared.site.Guard.{Guard}
 use Rattle.hotzone.specs.declared.site.Guard.TheVariants as guards
 use Rattle.hotzone.specs.declared.site.Site.{Site}
-use Rattle.luks_json.specs.declared.reencrypt.Resilience.{Resilience}
-use Rattle.luks_json.specs.declared.reencrypt.Resilience.TheVariants.{Journal, Checksum, Datashift}
+use Rattle.luks_meta.specs.declared.reencrypt.Resilience.{Resilience}
+use Rattle.luks_meta.specs.declared.reencrypt.Resilience.TheVariants.{Journal, Checksum, Datashift}
 use Rattle.segment_map.specs.Maps.{most_bytes}
 use Rattle.segment_map.specs.Sides.{left_of}
 use Rattle.segment_map.specs.declared.Direction.{Direction}

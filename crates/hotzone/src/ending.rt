@@ -12,7 +12,7 @@ use crate::headers::numbers_left;
 use crate::worker::{Ending, Wipes, ZoneFault};
 use base_terms::{Bytes, zeros};
 use json_members::Listed;
-use luks_json::Keyslot;
+use luks_meta::Keyslot;
 use luks_rules::{Area, list_areas};
 use luks_store::{Commit, Loaded};
 use reenc_meta::Reenc;

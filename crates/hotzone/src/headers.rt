@@ -9,7 +9,7 @@ ghost use Rattle.reenc_meta.specs.Placements.{all_atoms};
 ghost use Rattle.sector_disk.specs.Geometry.{IsDisk};
 
 use crate::worker::{Headers, NextHeader, ZoneFault};
-use luks_json::Meta;
+use luks_meta::Meta;
 use luks_store::{Commit, CommitError, Loaded};
 use reenc_meta::Reenc;
 use std::alloc::{AllocError, Global};

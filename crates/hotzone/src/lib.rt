@@ -13,7 +13,8 @@
 //! blocks lie between two steps, and [`Zone::is_working`] what is known of the state then. All that
 //! takes memory is made before the first write of a zone, or of the finish. A step that isn't made,
 //! or has failed, leaves its call in the state, and how it left the conversion ([`Halt`]); one that
-//! was given up may begin [`Zone::again`].
+//! was given up may begin [`Zone::again`]. And it may rely on the laws of `zone_events`: each step of a
+//! zone is one that the volume's machine allows its worker.
 #![tactic(auto)]
 
 mod digests;
@@ -28,6 +29,7 @@ mod site;
 mod steps;
 mod worker;
 mod zone;
+mod zone_events;
 
 pub use headers::{make_headers, open_header, turn_header};
 pub use laws::steps_are_of_zones;
@@ -35,3 +37,7 @@ pub use parts::reseal;
 pub use site::{Guard, Site, next_site};
 pub use worker::{Ending, Halt, Headers, NextCall, NextHeader, Stepped, Wipes, Worker, ZoneFault};
 pub use zone::Zone;
+pub use zone_events::{
+    maps_follow, sides_are_told, sizes_are_told, steps_are_works, zones_are_planned,
+    zones_begin_in_order,
+};

@@ -6,7 +6,7 @@ ghost use Rattle.sector_disk.specs.Geometry.{IsAtom};
 ghost use Rattle.luks_rules.specs.Rooms.{capacity_by};
 
 use base_terms::BlockRange;
-use luks_json::Resilience;
+use luks_meta::Resilience;
 use luks_rules::Conversion;
 use segment_map::{Direction, Map};
 

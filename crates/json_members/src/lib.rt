@@ -23,7 +23,7 @@ mod text;
 mod writing;
 
 pub use decimal::{decimal_number, decimal_text};
-pub use entries::{Entry, copy_entries, read_entries, write_entries};
+pub use entries::{Entry, copy_entries};
 pub use faults::{JsonFault, JsonFaultKind, ReadError, fault_at, path_of};
 pub use fields::{
     bytes_at, decimal_at, decimals_at, number_at, object_at, own_text_at, take_object, text_at,

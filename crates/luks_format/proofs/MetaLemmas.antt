@@ -5,13 +5,13 @@ use Rattle.luks_bin.proofs.FieldLemmas.{size-most}
 use Rattle.luks_format.specs.Metadata.{config_for, parts_with, segment_for}
 use Rattle.luks_format.specs.Wishes.{IsWish, keyslots_size_for}
 use Rattle.luks_format.specs.declared.wish.Wish.{Wish}
-use Rattle.luks_json.specs.Configs.{IsConfig}
-use Rattle.luks_json.specs.Digests.{IsDigest}
-use Rattle.luks_json.specs.Keyslots.{IsLuks2}
-use Rattle.luks_json.specs.Metas.{IsMeta}
-use Rattle.luks_json.specs.Segments.{IsSegment}
-use Rattle.luks_json.specs.declared.digest.Digest.{Digest}
-use Rattle.luks_json.specs.declared.keyslot.Luks2.{Luks2}
+use Rattle.luks_meta.specs.Configs.{IsConfig}
+use Rattle.luks_meta.specs.Digests.{IsDigest}
+use Rattle.luks_meta.specs.Keyslots.{IsLuks2}
+use Rattle.luks_meta.specs.Metas.{IsMeta}
+use Rattle.luks_meta.specs.Segments.{IsSegment}
+use Rattle.luks_meta.specs.declared.digest.Digest.{Digest}
+use Rattle.luks_meta.specs.declared.keyslot.Luks2.{Luks2}
 use Rattle.serde_json.specs.Data.{no_members}
 
 none-plain : (deep : ℕ) → IsPlain deep no_members

@@ -14,7 +14,7 @@ use Rattle.luks_format.specs.Metadata.{parts_with, segment_for}
 use Rattle.luks_format.specs.Wishes.{FitsDisk, IsWish, areas_end_for, detached_end, keyslots_end}
 use Rattle.luks_format.specs.Wishes.{keyslots_size_for, most_keyslots}
 use Rattle.luks_format.specs.declared.wish.Wish.{Wish}
-use Rattle.luks_json.specs.Configs.{mandatory}
+use Rattle.luks_meta.specs.Configs.{mandatory}
 use Rattle.luks_rules.specs.Areas.{areas_of, breaks_bounds, header_bytes, is_outside, passes_limit}
 use Rattle.luks_rules.specs.Conversions.{conversion_of, conversions_of}
 use Rattle.luks_rules.specs.Foreign.{first_foreign}

@@ -7,7 +7,7 @@ use Rattle.std.proofs.lemmas.Grind.{div_ceil_times}
 use Rattle.std.specs.Int.{div_ceil}
 use Rattle.std.specs.List.{list_any, list_all}
 use Rattle.luks_bin.specs.Fields.{is_size, sizes as nine_sizes}
-use Rattle.luks_json.specs.Segments.{is_sector_size}
+use Rattle.luks_meta.specs.Segments.{is_sector_size}
 use Rattle.luks_slots.specs.NewSlots.{area_len}
 use Rattle.luks_slots.specs.Stripes.{split_len}
 use Rattle.sector_disk.specs.Geometry.{IsAtom}

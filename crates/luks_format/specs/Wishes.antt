@@ -4,7 +4,7 @@ use Rattle.std.specs.Prelude.{if◌then◌else◌}
 use Rattle.base_terms.specs.declared.disk_sizes.Sizes.{Sizes}
 use Rattle.luks_bin.specs.Fields.{is_size}
 use Rattle.luks_format.specs.declared.wish.Wish.{Wish}
-use Rattle.luks_json.specs.Segments.{is_sector_size}
+use Rattle.luks_meta.specs.Segments.{is_sector_size}
 use Rattle.luks_rules.specs.Areas.{header_bytes, main_bytes}
 use Rattle.luks_slots.specs.Functions.{named_cipher}
 use Rattle.sector_cipher.specs.Names.{IsKeyLength}

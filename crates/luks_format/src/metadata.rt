@@ -5,12 +5,12 @@ ghost use Rattle.luks_format.specs.Drawings.{AreDrawn, draw};
 ghost use Rattle.luks_format.specs.Metadata.{config_for, keyslot_for, parts_for};
 ghost use Rattle.luks_format.specs.Metadata.{parts_with, segment_for};
 ghost use Rattle.luks_format.specs.Wishes.{IsWish};
-ghost use Rattle.luks_json.specs.Keyslots.{IsLuks2};
+ghost use Rattle.luks_meta.specs.Keyslots.{IsLuks2};
 
 use crate::drawn::Drawn;
 use crate::wish::Wish;
 use json_members::{Listed, Object};
-use luks_json::{Config, Digest, Encryption, Keyslot, Luks2, Meta, Parts, Segment, SegmentSize};
+use luks_meta::{Config, Digest, Encryption, Keyslot, Luks2, Meta, Parts, Segment, SegmentSize};
 use luks_slots::{make_digest, slot_object};
 use std::alloc::{AllocError, Global};
 

@@ -3,7 +3,7 @@
 ghost use Rattle.std.specs.Prelude.{◌≡◌, ◌*◌};
 ghost use Rattle.luks_format.specs.Wishes.{IsWish, areas_end_for, keyslots_end, keyslots_size_for};
 
-use luks_json::Cipher;
+use luks_meta::Cipher;
 use uuid::Uuid;
 
 /// The most bytes of a new volume's keyslots area.

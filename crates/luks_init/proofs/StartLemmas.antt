@@ -14,8 +14,8 @@ use Rattle.luks_init.specs.declared.places.Places.{Places}
 use Rattle.luks_init.specs.declared.wish.Guard.{Guard}
 use Rattle.luks_init.specs.declared.wish.Guard.TheVariants.{Journal, Checksum}
 use Rattle.luks_init.specs.declared.wish.Wish.{Wish}
-use Rattle.luks_json.specs.declared.meta.Parts.{Parts}
-use Rattle.luks_json.specs.declared.reencrypt.Direction.{Direction}
+use Rattle.luks_meta.specs.declared.meta.Parts.{Parts}
+use Rattle.luks_meta.specs.declared.reencrypt.Direction.{Direction}
 use Rattle.luks_slots.specs.KeyMaking.Drawings.{Draw}
 use Rattle.luks_rules.specs.Areas.{areas_begin, areas_end, areas_of, main_bytes}
 use Rattle.luks_rules.specs.Idles.{idle_of}

@@ -10,13 +10,13 @@ use Rattle.luks_init.specs.declared.places.Places.{Places}
 use Rattle.luks_init.specs.declared.wish.Guard.{Guard}
 use Rattle.luks_init.specs.declared.wish.Guard.TheVariants.{Journal, Checksum}
 use Rattle.luks_init.specs.declared.wish.Wish.{Wish}
-use Rattle.luks_json.specs.Digests.{IsDigest}
-use Rattle.luks_json.specs.Keyslots.{IsLuks2}
-use Rattle.luks_json.specs.Reencrypts.{IsArea}
-use Rattle.luks_json.specs.declared.digest.Digest.{Digest}
-use Rattle.luks_json.specs.declared.keyslot.Luks2.{Luks2}
-use Rattle.luks_json.specs.declared.meta.Parts.{Parts}
-use Rattle.luks_json.specs.declared.reencrypt.Direction.{Direction}
+use Rattle.luks_meta.specs.Digests.{IsDigest}
+use Rattle.luks_meta.specs.Keyslots.{IsLuks2}
+use Rattle.luks_meta.specs.Reencrypts.{IsArea}
+use Rattle.luks_meta.specs.declared.digest.Digest.{Digest}
+use Rattle.luks_meta.specs.declared.keyslot.Luks2.{Luks2}
+use Rattle.luks_meta.specs.declared.meta.Parts.{Parts}
+use Rattle.luks_meta.specs.declared.reencrypt.Direction.{Direction}
 use Rattle.luks_rules.specs.declared.idle.Idle.{Idle}
 use Rattle.reenc_meta.specs.Wishes.{HasOffset, IsWish as IsMetaWish}
 use Rattle.sector_disk.specs.Geometry.{IsAtom}

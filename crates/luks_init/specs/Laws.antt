@@ -6,7 +6,7 @@ use Rattle.luks_init.specs.Places.{AreLowest}
 use Rattle.luks_init.specs.Wishes.{IsWish}
 use Rattle.luks_init.specs.declared.places.Places.{Places}
 use Rattle.luks_init.specs.declared.wish.Wish.{Wish}
-use Rattle.luks_json.specs.declared.meta.Parts.{Parts}
+use Rattle.luks_meta.specs.declared.meta.Parts.{Parts}
 use Rattle.luks_slots.specs.KeyMaking.Drawings.{Draw}
 use Rattle.luks_rules.specs.Idles.{idle_of}
 use Rattle.luks_rules.specs.States.{IsSound}

@@ -5,7 +5,7 @@ use Rattle.luks_init.specs.declared.fault.InitFault.{InitFault}
 use Rattle.luks_init.specs.declared.fault.InitFault.TheVariants as faults
 use Rattle.luks_init.specs.declared.places.Places.{Places}
 use Rattle.luks_init.specs.declared.wish.Wish.{Wish}
-use Rattle.luks_json.specs.declared.meta.Parts.{Parts}
+use Rattle.luks_meta.specs.declared.meta.Parts.{Parts}
 use Rattle.luks_rules.specs.declared.areas.Area.{Area}
 use Rattle.luks_slots.specs.Gaps.{IsGapFault, IsLowest}
 use Rattle.luks_slots.specs.NewSlots.{area_len}

@@ -4,7 +4,7 @@ ghost use Rattle.std.specs.Prelude.{◌≡◌, ◌≤◌, ◌^◌};
 ghost use Rattle.luks_init.specs.Wishes.{IsWish, guard_len, resilience_for, saved_len};
 ghost use Rattle.sector_disk.specs.Geometry.{IsAtom};
 
-use luks_json::{Cipher, Direction, Resilience};
+use luks_meta::{Cipher, Direction, Resilience};
 
 /// The bytes of a page, in which areas are measured.
 const PAGE: u64 = 4096;

@@ -22,13 +22,16 @@ use Rattle.json_members.proofs.PutLemmas.{get_member-put_all, get_member-put_opt
 use Rattle.json_members.proofs.PutLemmas.{without_all-put_all, without_all-put_all_among}
 use Rattle.json_members.proofs.PutLemmas.{without_all-put_optional, without_all-gone}
 use Rattle.json_members.proofs.ReadLemmas.{Right, then, right_at, each_right}
-use Rattle.luks_json.specs.declared.config.Config.{Config}
-use Rattle.luks_json.specs.declared.config.Requirements.{Requirements}
-use Rattle.luks_json.specs.Configs.{requirements_names, requirements_of, requirements_in, only_size}
-use Rattle.luks_json.specs.Configs.{json_size_named, config_names, config_of, requirements_fields}
+use Rattle.luks_meta.specs.declared.config.Config.{Config}
+use Rattle.luks_meta.specs.declared.config.Requirements.{Requirements}
+use Rattle.luks_meta.specs.Configs.{requirements_names}
+use Rattle.luks_json.specs.Configs.{requirements_of, requirements_in, only_size}
+use Rattle.luks_json.specs.Configs.{json_size_named, config_of, requirements_fields}
+use Rattle.luks_meta.specs.Configs.{config_names}
 use Rattle.luks_json.specs.Configs.{requirements_members, config_fields, config_members}
-use Rattle.luks_json.specs.Configs.{HasRequirements, HasConfig, IsRequirements, IsConfig}
-use Rattle.luks_json.specs.Configs.{is_foreign, any_foreign, origin_by, mandatory, origin_of}
+use Rattle.luks_json.specs.Configs.{HasRequirements, HasConfig}
+use Rattle.luks_meta.specs.Configs.{IsRequirements, IsConfig}
+use Rattle.luks_meta.specs.Configs.{is_foreign, any_foreign, origin_by, mandatory, origin_of}
 use Rattle.luks_json.specs.Configs.{any_foreign_item, any_foreign_in, mandatory_in, origin_in}
 
 -- ---- the requirements

@@ -11,10 +11,12 @@ use Rattle.json_members.proofs.FieldLemmas.{bytes_in-bytes, bytes_got}
 use Rattle.json_members.proofs.PlainLemmas.{put_all-plain, without_all-plain, Lacks-without_all}
 use Rattle.json_members.proofs.PutLemmas.{get_member-put_all, without_all-put_all}
 use Rattle.json_members.proofs.ReadLemmas.{Right, then}
-use Rattle.luks_json.specs.declared.digest.Digest.{Digest}
-use Rattle.luks_json.specs.Digests.{digest_names, digest_of, digest_fields, digest_members}
-use Rattle.luks_json.specs.Digests.{HasDigest, IsDigest}
-use Rattle.luks_json.specs.Names.{hash_name, hash_named, iterations_of}
+use Rattle.luks_meta.specs.declared.digest.Digest.{Digest}
+use Rattle.luks_meta.specs.Digests.{digest_names}
+use Rattle.luks_json.specs.Digests.{digest_of, digest_fields, digest_members}
+use Rattle.luks_json.specs.Digests.{HasDigest}
+use Rattle.luks_meta.specs.Digests.{IsDigest}
+use Rattle.luks_meta.specs.Names.{hash_name, hash_named, iterations_of}
 use Rattle.luks_json.proofs.NameLemmas.{hash_named-exact, hash_named-name, iterations_got}
 use Rattle.luks_json.proofs.NameLemmas.{iterations_made}
 

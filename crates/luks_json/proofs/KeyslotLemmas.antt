@@ -17,20 +17,22 @@ use Rattle.json_members.proofs.PutLemmas.{get_member-put_all, get_member-put_opt
 use Rattle.json_members.proofs.PutLemmas.{without_all-put_all, without_all-put_all_among}
 use Rattle.json_members.proofs.PutLemmas.{without_all-put_optional, without_all-gone}
 use Rattle.json_members.proofs.ReadLemmas.{Right, then, right_at, each_right}
-use Rattle.luks_json.specs.declared.keyslot.OtherArea.{OtherArea}
-use Rattle.luks_json.specs.declared.keyslot.OtherSlot.{OtherSlot}
-use Rattle.luks_json.specs.declared.keyslot.Keyslot.{Keyslot}
-use Rattle.luks_json.specs.declared.keyslot.Keyslot.TheVariants as keyslots
-use Rattle.luks_json.specs.declared.keyslot.Origin.{Origin}
-use Rattle.luks_json.specs.declared.keyslot.Origin.TheVariants.{Own, Foreign}
-use Rattle.luks_json.specs.declared.keyslot.SlotType.{SlotType}
-use Rattle.luks_json.specs.declared.keyslot.SlotType.TheVariants as types
-use Rattle.luks_json.specs.Keyslots.{luks2_of, other_area_names, other_area_of, other_area_in}
-use Rattle.luks_json.specs.Keyslots.{other_names, other_of, is_own, slot_type, keyslot_by}
+use Rattle.luks_meta.specs.declared.keyslot.OtherArea.{OtherArea}
+use Rattle.luks_meta.specs.declared.keyslot.OtherSlot.{OtherSlot}
+use Rattle.luks_meta.specs.declared.keyslot.Keyslot.{Keyslot}
+use Rattle.luks_meta.specs.declared.keyslot.Keyslot.TheVariants as keyslots
+use Rattle.luks_meta.specs.declared.keyslot.Origin.{Origin}
+use Rattle.luks_meta.specs.declared.keyslot.Origin.TheVariants.{Own, Foreign}
+use Rattle.luks_meta.specs.declared.keyslot.SlotType.{SlotType}
+use Rattle.luks_meta.specs.declared.keyslot.SlotType.TheVariants as types
+use Rattle.luks_json.specs.Keyslots.{luks2_of, other_area_of, other_area_in}
+use Rattle.luks_meta.specs.Keyslots.{other_area_names}
+use Rattle.luks_meta.specs.Keyslots.{other_names, is_own, slot_type}
+use Rattle.luks_json.specs.Keyslots.{other_of, keyslot_by}
 use Rattle.luks_json.specs.Keyslots.{keyslot_of, other_area_fields}
 use Rattle.luks_json.specs.Keyslots.{other_area_members, other_fields, other_members}
 use Rattle.luks_json.specs.Keyslots.{keyslot_members, HasLuks2, HasOtherArea, HasOther, HasKeyslot}
-use Rattle.luks_json.specs.Keyslots.{IsOtherArea, IsOther, IsKeyslot}
+use Rattle.luks_meta.specs.Keyslots.{IsOtherArea, IsOther, IsKeyslot}
 use Rattle.luks_json.specs.Reencrypts.{reencrypt_of, HasReencrypt}
 use Rattle.luks_json.proofs.Luks2Lemmas.{luks2_read, luks2_made, luks2_written, luks2_right}
 use Rattle.luks_json.proofs.Luks2Lemmas.{luks2_plain}

@@ -22,23 +22,28 @@ use Rattle.json_members.proofs.PutLemmas.{get_member-put_all, get_member-put_opt
 use Rattle.json_members.proofs.PutLemmas.{without_all-put_all, without_all-put_all_among}
 use Rattle.json_members.proofs.PutLemmas.{without_all-put_optional, without_all-gone}
 use Rattle.json_members.proofs.ReadLemmas.{Right, then, right_at}
-use Rattle.luks_json.specs.declared.keyslot.SlotArea.{SlotArea}
-use Rattle.luks_json.specs.declared.keyslot.Derivation.{Derivation}
-use Rattle.luks_json.specs.declared.keyslot.Derivation.TheVariants as derivations
-use Rattle.luks_json.specs.declared.keyslot.Kdf.{Kdf}
-use Rattle.luks_json.specs.declared.keyslot.Splitter.{Splitter}
-use Rattle.luks_json.specs.declared.keyslot.Priority.{Priority}
-use Rattle.luks_json.specs.declared.keyslot.Priority.TheVariants.{Ignore, Normal, High}
-use Rattle.luks_json.specs.declared.keyslot.Luks2.{Luks2}
-use Rattle.luks_json.specs.Keyslots.{slot_area_names, slot_area_of, pbkdf2_in, derivation_by}
-use Rattle.luks_json.specs.Keyslots.{kdf_names, kdf_of, splitter_names, splitter_of, priority_of}
-use Rattle.luks_json.specs.Keyslots.{luks2_names, luks2_of, slot_area_fields, slot_area_members}
+use Rattle.luks_meta.specs.declared.keyslot.SlotArea.{SlotArea}
+use Rattle.luks_meta.specs.declared.keyslot.Derivation.{Derivation}
+use Rattle.luks_meta.specs.declared.keyslot.Derivation.TheVariants as derivations
+use Rattle.luks_meta.specs.declared.keyslot.Kdf.{Kdf}
+use Rattle.luks_meta.specs.declared.keyslot.Splitter.{Splitter}
+use Rattle.luks_meta.specs.declared.keyslot.Priority.{Priority}
+use Rattle.luks_meta.specs.declared.keyslot.Priority.TheVariants.{Ignore, Normal, High}
+use Rattle.luks_meta.specs.declared.keyslot.Luks2.{Luks2}
+use Rattle.luks_meta.specs.Keyslots.{slot_area_names}
+use Rattle.luks_json.specs.Keyslots.{slot_area_of, pbkdf2_in, derivation_by}
+use Rattle.luks_meta.specs.Keyslots.{kdf_names, splitter_names}
+use Rattle.luks_json.specs.Keyslots.{kdf_of, splitter_of, priority_of}
+use Rattle.luks_meta.specs.Keyslots.{luks2_names}
+use Rattle.luks_json.specs.Keyslots.{luks2_of, slot_area_fields, slot_area_members}
 use Rattle.luks_json.specs.Keyslots.{kdf_fields, kdf_members, splitter_fields, splitter_members}
-use Rattle.luks_json.specs.Keyslots.{priority_number, luks2_fields, luks2_members, HasSlotArea}
+use Rattle.luks_meta.specs.Keyslots.{priority_number}
+use Rattle.luks_json.specs.Keyslots.{luks2_fields, luks2_members, HasSlotArea}
 use Rattle.luks_json.specs.Keyslots.{HasPbkdf2, HasDerivation, HasKdf, HasSplitter}
-use Rattle.luks_json.specs.Keyslots.{HasLuks2, IsSlotArea, IsDerivation, IsKdf}
-use Rattle.luks_json.specs.Keyslots.{IsSplitter, IsLuks2}
-use Rattle.luks_json.specs.Names.{iterations_of}
+use Rattle.luks_json.specs.Keyslots.{HasLuks2}
+use Rattle.luks_meta.specs.Keyslots.{IsSlotArea, IsDerivation, IsKdf}
+use Rattle.luks_meta.specs.Keyslots.{IsSplitter, IsLuks2}
+use Rattle.luks_meta.specs.Names.{iterations_of}
 use Rattle.luks_json.proofs.NameLemmas.{one_of_three, by_three, same_text, iterations_got}
 use Rattle.luks_json.proofs.NameLemmas.{iterations_made}
 

@@ -12,15 +12,17 @@ use Rattle.json_members.specs.Floats.{float_in}
 use Rattle.json_members.proofs.FieldLemmas.{object_in-object, object_got, as_object-object}
 use Rattle.json_members.proofs.FloatLemmas.{float_in-whole, whole-float_in}
 use Rattle.json_members.proofs.ReadLemmas.{Right, then, right_at, needed, read_on}
-use Rattle.luks_json.specs.declared.meta.Parts.{Parts}
-use Rattle.luks_json.specs.declared.config.Config.{Config}
-use Rattle.luks_json.specs.declared.keyslot.Origin.{Origin}
-use Rattle.luks_json.specs.declared.token.Token.{Token}
-use Rattle.luks_json.specs.Configs.{config_of, HasConfig, origin_in, origin_of}
+use Rattle.luks_meta.specs.declared.meta.Parts.{Parts}
+use Rattle.luks_meta.specs.declared.config.Config.{Config}
+use Rattle.luks_meta.specs.declared.keyslot.Origin.{Origin}
+use Rattle.luks_meta.specs.declared.token.Token.{Token}
+use Rattle.luks_json.specs.Configs.{config_of, HasConfig, origin_in}
+use Rattle.luks_meta.specs.Configs.{origin_of}
 use Rattle.luks_json.specs.Digests.{digest_of, HasDigest}
 use Rattle.luks_json.specs.Keyslots.{keyslot_of, HasKeyslot}
 use Rattle.luks_json.specs.MetaForms.{HasMeta, HasObjects, HasToken, HaveForm}
-use Rattle.luks_json.specs.Metas.{all_there, config_in, list_in, meta_names, meta_of, parts_of, top}
+use Rattle.luks_json.specs.Metas.{all_there, config_in, list_in, meta_of, parts_of, top}
+use Rattle.luks_meta.specs.Metas.{meta_names}
 use Rattle.luks_json.specs.Metas.{whole_if}
 use Rattle.luks_json.specs.Segments.{segment_of, HasSegment}
 use Rattle.luks_json.specs.Tokens.{token_of}

@@ -29,22 +29,29 @@ use Rattle.json_members.proofs.PlainLemmas.{get_member-without_other}
 use Rattle.json_members.proofs.PutLemmas.{get_member-put_all, without_all-put_all}
 use Rattle.json_members.proofs.ReadLemmas.{Right, then, right_at, needed, read_on}
 use Rattle.json_members.proofs.ReadLemmas.{each_right}
-use Rattle.luks_json.specs.declared.meta.Parts.{Parts}
-use Rattle.luks_json.specs.declared.config.Config.{Config}
-use Rattle.luks_json.specs.declared.digest.Digest.{Digest}
-use Rattle.luks_json.specs.declared.keyslot.Keyslot.{Keyslot}
-use Rattle.luks_json.specs.declared.keyslot.Origin.{Origin}
-use Rattle.luks_json.specs.declared.segment.Segment.{Segment}
-use Rattle.luks_json.specs.declared.token.Token.{Token}
-use Rattle.luks_json.specs.Configs.{config_of, config_members, HasConfig, IsConfig, origin_of}
+use Rattle.luks_meta.specs.declared.meta.Parts.{Parts}
+use Rattle.luks_meta.specs.declared.config.Config.{Config}
+use Rattle.luks_meta.specs.declared.digest.Digest.{Digest}
+use Rattle.luks_meta.specs.declared.keyslot.Keyslot.{Keyslot}
+use Rattle.luks_meta.specs.declared.keyslot.Origin.{Origin}
+use Rattle.luks_meta.specs.declared.segment.Segment.{Segment}
+use Rattle.luks_meta.specs.declared.token.Token.{Token}
+use Rattle.luks_json.specs.Configs.{config_of, config_members, HasConfig}
+use Rattle.luks_meta.specs.Configs.{IsConfig, origin_of}
 use Rattle.luks_json.specs.Configs.{origin_in}
-use Rattle.luks_json.specs.Digests.{digest_of, digest_members, HasDigest, IsDigest}
-use Rattle.luks_json.specs.Keyslots.{keyslot_of, keyslot_members, HasKeyslot, IsKeyslot}
-use Rattle.luks_json.specs.Segments.{segment_of, segment_members, HasSegment, IsSegment}
-use Rattle.luks_json.specs.Tokens.{token_of, token_members, IsToken}
-use Rattle.luks_json.specs.Metas.{top, text_fault, meta_names, there_in, all_there, list_in}
+use Rattle.luks_json.specs.Digests.{digest_of, digest_members, HasDigest}
+use Rattle.luks_meta.specs.Digests.{IsDigest}
+use Rattle.luks_json.specs.Keyslots.{keyslot_of, keyslot_members, HasKeyslot}
+use Rattle.luks_meta.specs.Keyslots.{IsKeyslot}
+use Rattle.luks_json.specs.Segments.{segment_of, segment_members, HasSegment}
+use Rattle.luks_meta.specs.Segments.{IsSegment}
+use Rattle.luks_json.specs.Tokens.{token_of, token_members}
+use Rattle.luks_meta.specs.Tokens.{IsToken}
+use Rattle.luks_json.specs.Metas.{top, text_fault, there_in, all_there, list_in}
+use Rattle.luks_meta.specs.Metas.{meta_names}
 use Rattle.luks_json.specs.Metas.{config_in, parts_of, whole_if, meta_of, read_as}
-use Rattle.luks_json.specs.Metas.{meta_from, meta_fields, meta_members, data_of, IsMeta}
+use Rattle.luks_json.specs.Metas.{meta_from, meta_fields, meta_members, data_of}
+use Rattle.luks_meta.specs.Metas.{IsMeta}
 use Rattle.luks_json.proofs.ConfigLemmas.{config_read, config_made, config_written, config_right}
 use Rattle.luks_json.proofs.ConfigLemmas.{config_plain, origin_in-config}
 use Rattle.luks_json.proofs.DigestLemmas.{digest_read, digest_made, digest_written, digest_right}

@@ -7,12 +7,12 @@ use Rattle.json_members.specs.Fields.{counted_in}
 use Rattle.json_members.specs.Forms.{HasNumber}
 use Rattle.json_members.proofs.DecimalLemmas.{chosen_from, taken_from}
 use Rattle.json_members.proofs.FieldLemmas.{counted_got, counted_in-number}
-use Rattle.luks_json.specs.declared.names.Cipher.{Cipher}
-use Rattle.luks_json.specs.declared.names.Cipher.TheVariants.{AesXtsPlain64, AesCbcEssivSha256}
-use Rattle.luks_json.specs.declared.names.Hash.{Hash}
-use Rattle.luks_json.specs.declared.names.Hash.TheVariants.{Sha256, Sha512}
-use Rattle.luks_json.specs.Names.{cipher_name, cipher_named, hash_name, hash_named, is_iterations}
-use Rattle.luks_json.specs.Names.{iterations_of}
+use Rattle.luks_meta.specs.declared.names.Cipher.{Cipher}
+use Rattle.luks_meta.specs.declared.names.Cipher.TheVariants.{AesXtsPlain64, AesCbcEssivSha256}
+use Rattle.luks_meta.specs.declared.names.Hash.{Hash}
+use Rattle.luks_meta.specs.declared.names.Hash.TheVariants.{Sha256, Sha512}
+use Rattle.luks_meta.specs.Names.{cipher_name, cipher_named, hash_name, hash_named, is_iterations}
+use Rattle.luks_meta.specs.Names.{iterations_of}
 
 -- ---- one of two, and one of three
 pub one_of_two : {X : Type 0} (a b : Bool) (x y z : X)

@@ -19,22 +19,24 @@ use Rattle.json_members.proofs.FieldLemmas.{object_in-object, object_got}
 use Rattle.json_members.proofs.PlainLemmas.{put_all-plain, without_all-plain, Lacks-without_all}
 use Rattle.json_members.proofs.PutLemmas.{get_member-put_all, without_all-put_all}
 use Rattle.json_members.proofs.ReadLemmas.{Right, then, right_at, each_right}
-use Rattle.luks_json.specs.declared.reencrypt.Mode.{Mode}
-use Rattle.luks_json.specs.declared.reencrypt.Mode.TheVariants as modes
-use Rattle.luks_json.specs.declared.reencrypt.Direction.{Direction}
-use Rattle.luks_json.specs.declared.reencrypt.Direction.TheVariants.{Forward, Backward}
-use Rattle.luks_json.specs.declared.reencrypt.Resilience.{Resilience}
-use Rattle.luks_json.specs.declared.reencrypt.Resilience.TheVariants.{Journal, Checksum, Datashift}
+use Rattle.luks_meta.specs.declared.reencrypt.Mode.{Mode}
+use Rattle.luks_meta.specs.declared.reencrypt.Mode.TheVariants as modes
+use Rattle.luks_meta.specs.declared.reencrypt.Direction.{Direction}
+use Rattle.luks_meta.specs.declared.reencrypt.Direction.TheVariants.{Forward, Backward}
+use Rattle.luks_meta.specs.declared.reencrypt.Resilience.{Resilience}
+use Rattle.luks_meta.specs.declared.reencrypt.Resilience.TheVariants.{Journal, Checksum, Datashift}
 use Rattle.luks_json.specs.declared.reencrypt.AreaType.{AreaType}
 use Rattle.luks_json.specs.declared.reencrypt.AreaType.TheVariants as types
-use Rattle.luks_json.specs.declared.reencrypt.ReencryptArea.{ReencryptArea}
-use Rattle.luks_json.specs.declared.reencrypt.Reencrypt.{Reencrypt}
-use Rattle.luks_json.specs.Reencrypts.{mode_name, mode_named, direction_name, direction_named}
-use Rattle.luks_json.specs.Reencrypts.{area_type_named, area_type_name, checksum_in, resilience_by}
-use Rattle.luks_json.specs.Reencrypts.{area_names, area_of, only_one, reencrypt_names, reencrypt_of}
+use Rattle.luks_meta.specs.declared.reencrypt.ReencryptArea.{ReencryptArea}
+use Rattle.luks_meta.specs.declared.reencrypt.Reencrypt.{Reencrypt}
+use Rattle.luks_meta.specs.Reencrypts.{mode_name, mode_named, direction_name, direction_named}
+use Rattle.luks_json.specs.Reencrypts.{area_type_named, checksum_in, resilience_by}
+use Rattle.luks_meta.specs.Reencrypts.{area_type_name}
+use Rattle.luks_meta.specs.Reencrypts.{area_names, reencrypt_names}
+use Rattle.luks_json.specs.Reencrypts.{area_of, only_one, reencrypt_of}
 use Rattle.luks_json.specs.Reencrypts.{area_fields, area_members, reencrypt_fields}
 use Rattle.luks_json.specs.Reencrypts.{reencrypt_members, HasResilience, HasArea, HasReencrypt}
-use Rattle.luks_json.specs.Reencrypts.{IsResilience, IsArea, IsReencrypt}
+use Rattle.luks_meta.specs.Reencrypts.{IsResilience, IsArea, IsReencrypt}
 use Rattle.luks_json.proofs.NameLemmas.{one_of_two, one_of_three, by_two, by_three, same_text}
 
 -- ---- names

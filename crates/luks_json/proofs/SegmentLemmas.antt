@@ -22,18 +22,22 @@ use Rattle.json_members.proofs.PutLemmas.{get_member-put_all, get_member-put_opt
 use Rattle.json_members.proofs.PutLemmas.{get_member-put_optional_other, without_all-put_all_among}
 use Rattle.json_members.proofs.PutLemmas.{without_all-put_optional, without_all-gone}
 use Rattle.json_members.proofs.ReadLemmas.{Right, then, right_at}
-use Rattle.luks_json.specs.declared.segment.Segment.{Segment}
-use Rattle.luks_json.specs.declared.segment.Encryption.{Encryption}
-use Rattle.luks_json.specs.declared.segment.SegmentSize.{SegmentSize}
-use Rattle.luks_json.specs.declared.segment.SegmentSize.TheVariants.{Dynamic, Sized}
+use Rattle.luks_meta.specs.declared.segment.Segment.{Segment}
+use Rattle.luks_meta.specs.declared.segment.Encryption.{Encryption}
+use Rattle.luks_meta.specs.declared.segment.SegmentSize.{SegmentSize}
+use Rattle.luks_meta.specs.declared.segment.SegmentSize.TheVariants.{Dynamic, Sized}
 use Rattle.luks_json.specs.declared.segment.SegmentType.{SegmentType}
 use Rattle.luks_json.specs.declared.segment.SegmentType.TheVariants.{Crypt, Linear}
-use Rattle.luks_json.specs.Names.{cipher_name, cipher_named}
-use Rattle.luks_json.specs.Segments.{type_named, size_named, is_sector_size, sector_size_of}
-use Rattle.luks_json.specs.Segments.{encryption_in, encryption_by, segment_names, segment_of}
+use Rattle.luks_meta.specs.Names.{cipher_name, cipher_named}
+use Rattle.luks_json.specs.Segments.{type_named, size_named, sector_size_of}
+use Rattle.luks_meta.specs.Segments.{is_sector_size}
+use Rattle.luks_json.specs.Segments.{encryption_in, encryption_by, segment_of}
+use Rattle.luks_meta.specs.Segments.{segment_names}
 use Rattle.luks_json.specs.Segments.{size_text, type_name, encryption_fields, put_encryption}
-use Rattle.luks_json.specs.Segments.{segment_fields, flags_data, segment_members, IsSize}
-use Rattle.luks_json.specs.Segments.{HasEncryption, HasSegment, IsEncryption, IsSegment}
+use Rattle.luks_json.specs.Segments.{segment_fields, flags_data, segment_members}
+use Rattle.luks_meta.specs.Segments.{IsSize}
+use Rattle.luks_json.specs.Segments.{HasEncryption, HasSegment}
+use Rattle.luks_meta.specs.Segments.{IsEncryption, IsSegment}
 use Rattle.luks_json.proofs.NameLemmas.{one_of_two, by_two, same_text, cipher_named-exact}
 use Rattle.luks_json.proofs.NameLemmas.{cipher_named-name}
 

@@ -1,8 +1,7 @@
 -- The sizes and requirements as the members of an object.
-use Rattle.std.specs.Prelude.{◌≡◌, ℕ, ◌^◌, ◌-◌, ◌<◌, ◌==◌, ◌||◌, not, Bool, true, false, List, []}
+use Rattle.std.specs.Prelude.{◌≡◌, ℕ, ◌-◌, ◌==◌, ◌||◌, Bool, false, List, []}
 use Rattle.std.specs.Prelude.{◌∷◌, codes, Option, Some, None, option_map, option_and_then, Result}
-use Rattle.std.specs.Prelude.{Ok, if◌then◌else◌, decimal, IfSome}
-use Rattle.std.specs.Str.{bytes_eq}
+use Rattle.std.specs.Prelude.{Ok, if◌then◌else◌, decimal}
 use Rattle.serde_json.specs.Data.{Data, null, boolean, number, string, array, object, Items}
 use Rattle.serde_json.specs.Data.{no_items, item, Members}
 use Rattle.serde_json.specs.Find.{get, get_member, as_array}
@@ -12,16 +11,14 @@ use Rattle.json_members.specs.Decimals.{number_of}
 use Rattle.json_members.specs.Fields.{◌>>=◌, under, meant_in, decimal_in, texts_in, object_in}
 use Rattle.json_members.specs.Fields.{optional, texts_data}
 use Rattle.json_members.specs.Forms.{HasDecimal, HasObject, HasTexts, HasOptional}
-use Rattle.json_members.specs.Members.{without_all, put_all, put_optional, Lacks, IsPlain}
-use Rattle.luks_json.specs.declared.config.Config.{Config}
-use Rattle.luks_json.specs.declared.config.Requirements.{Requirements}
-use Rattle.luks_json.specs.declared.keyslot.Origin.{Origin}
-use Rattle.luks_json.specs.declared.keyslot.Origin.TheVariants.{Own, Foreign}
+use Rattle.json_members.specs.Members.{without_all, put_all, put_optional}
+use Rattle.luks_meta.specs.declared.config.Config.{Config}
+use Rattle.luks_meta.specs.declared.config.Requirements.{Requirements}
+use Rattle.luks_meta.specs.declared.keyslot.Origin.{Origin}
+use Rattle.luks_meta.specs.Configs.{requirements_names, config_names, is_foreign, origin_by}
+use Rattle.luks_meta.specs.Configs.{mandatory}
 
 -- ---- from members to the sizes and requirements
-abbrev pub requirements_names : List (List ℕ)
-requirements_names = codes "mandatory" ∷ []
-
 unfoldable pub requirements_of : List ℕ → Members → Result Requirements JsonFault
 requirements_of path ms = do
   mandatory ← texts_in path (codes "mandatory") ms
@@ -38,9 +35,6 @@ only_size hdr_size n = if n == hdr_size - 4096 then Some n else None
 
 abbrev pub json_size_named : ℕ → List ℕ → Option ℕ
 json_size_named hdr_size text = option_and_then (only_size hdr_size) (number_of text)
-
-abbrev pub config_names : List (List ℕ)
-config_names = codes "json_size" ∷ codes "keyslots_size" ∷ codes "requirements" ∷ []
 
 unfoldable pub config_of : ℕ → List ℕ → Members → Result Config JsonFault
 config_of hdr_size path ms = do
@@ -87,42 +81,7 @@ pub record HasConfig (hdr_size : ℕ) (ms : Members) (c : Config) : Type 0 where
       c.requirements ms
   pub rest : c.rest ≡ without_all config_names ms
 
--- ---- sizes and requirements that have a text
-pub record IsRequirements (r : Requirements) : Type 0 where
-  pub lacks : Lacks requirements_names r.rest
-  pub plain : IsPlain 124 r.rest
-
-pub record IsConfig (c : Config) : Type 0 where
-  pub json_size : c.json_size < 2 ^ 64
-  pub keyslots_size : c.keyslots_size < 2 ^ 64
-  pub requirements : IfSome c.requirements IsRequirements
-  pub lacks : Lacks config_names c.rest
-  pub plain : IsPlain 125 c.rest
-
 -- ---- who asks for something
--- the requirement of a conversion by this program
-abbrev pub profile : List ℕ
-profile = codes "reencd-online-reencrypt-v1"
-
-abbrev pub is_foreign : List ℕ → Bool
-is_foreign text = not (bytes_eq text profile)
-
-abbrev pub any_foreign : List (List ℕ) → Bool
-any_foreign [] = false
-any_foreign (text ∷ texts) = is_foreign text || any_foreign texts
-
-abbrev pub origin_by : Bool → Origin
-origin_by true = Foreign
-origin_by false = Own
-
--- whose header it is by its requirements: foreign where one isn't the profile's
-abbrev pub mandatory : Option Requirements → List (List ℕ)
-mandatory None = []
-mandatory (Some r) = r.mandatory
-
-abbrev pub origin_of : Config → Origin
-origin_of c = origin_by (any_foreign (mandatory c.requirements))
-
 -- the same of the top members, whatever else they are
 abbrev pub is_foreign_item : Data → Bool
 is_foreign_item null = false

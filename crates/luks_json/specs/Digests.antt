@@ -1,7 +1,6 @@
 -- A digest as the members of an object.
-use Rattle.std.specs.Prelude.{◌≡◌, ℕ, ◌^◌, ◌<◌, List, [], ◌∷◌, codes, true, Result, Ok}
-use Rattle.std.specs.List.{AllByRecursion}
-use Rattle.base64.specs.GeneralPurpose.{encode_of, IsBytes}
+use Rattle.std.specs.Prelude.{◌≡◌, ℕ, List, [], ◌∷◌, codes, true, Result, Ok}
+use Rattle.base64.specs.GeneralPurpose.{encode_of}
 use Rattle.base64.specs.Engines.{standard}
 use Rattle.serde_json.specs.Data.{Data, string, number, unsigned, array, Members}
 use Rattle.json_members.specs.declared.faults.JsonFault.{JsonFault}
@@ -9,14 +8,10 @@ use Rattle.json_members.specs.declared.faults.JsonFaultKind.TheVariants.{Unsuppo
 use Rattle.json_members.specs.Fields.{◌>>=◌, meant_in, word_in, counted_in, bytes_in, decimals_in}
 use Rattle.json_members.specs.Fields.{decimals_data}
 use Rattle.json_members.specs.Forms.{HasText, HasNumber, HasBytes, HasDecimals}
-use Rattle.json_members.specs.Members.{without_all, put_all, Lacks, IsPlain}
-use Rattle.luks_json.specs.declared.digest.Digest.{Digest}
-use Rattle.luks_json.specs.Names.{hash_name, hash_named, is_iterations, iterations_of}
-
-abbrev pub digest_names : List (List ℕ)
-digest_names =
-    codes "type" ∷ codes "keyslots" ∷ codes "segments" ∷ codes "hash" ∷ codes "iterations"
-    ∷ codes "salt" ∷ codes "digest" ∷ []
+use Rattle.json_members.specs.Members.{without_all, put_all}
+use Rattle.luks_meta.specs.declared.digest.Digest.{Digest}
+use Rattle.luks_meta.specs.Names.{hash_name, hash_named, is_iterations, iterations_of}
+use Rattle.luks_meta.specs.Digests.{digest_names}
 
 -- the digest that an object is, or its first fault
 unfoldable pub digest_of : List ℕ → Members → Result Digest JsonFault
@@ -63,13 +58,3 @@ pub record HasDigest (ms : Members) (d : Digest) : Type 0 where
   pub salt : HasBytes (codes "salt") d.salt ms
   pub digest : HasBytes (codes "digest") d.digest ms
   pub rest : d.rest ≡ without_all digest_names ms
-
--- a digest that has a text
-pub record IsDigest (d : Digest) : Type 0 where
-  pub keyslots : AllByRecursion (λ n. n < 2 ^ 64) d.keyslots
-  pub segments : AllByRecursion (λ n. n < 2 ^ 64) d.segments
-  pub iterations : is_iterations d.iterations ≡ true
-  pub salt : IsBytes d.salt
-  pub digest : IsBytes d.digest
-  pub lacks : Lacks digest_names d.rest
-  pub plain : IsPlain 124 d.rest

@@ -1,9 +1,9 @@
 -- A keyslot as the members of an object.
-use Rattle.std.specs.Prelude.{◌≡◌, ℕ, ◌^◌, ◌<◌, ◌&&◌, ◌==◌, List, [], ◌∷◌, codes, Bool, true, false}
+use Rattle.std.specs.Prelude.{◌≡◌, ℕ, ◌==◌, List, [], ◌∷◌, codes, Bool, true, false}
 use Rattle.std.specs.Prelude.{Option, Some, None, option_map, Result, Ok, if◌then◌else◌}
-use Rattle.std.specs.Prelude.{decimal, IfSome}
+use Rattle.std.specs.Prelude.{decimal}
 use Rattle.std.specs.Str.{bytes_eq}
-use Rattle.base64.specs.GeneralPurpose.{encode_of, IsBytes}
+use Rattle.base64.specs.GeneralPurpose.{encode_of}
 use Rattle.base64.specs.Engines.{standard}
 use Rattle.serde_json.specs.Data.{Data, string, number, unsigned, object, Members}
 use Rattle.json_members.specs.declared.faults.JsonFault.{JsonFault}
@@ -11,32 +11,30 @@ use Rattle.json_members.specs.Fields.{◌>>=◌, under, text_in, word_in, number
 use Rattle.json_members.specs.Fields.{decimal_in, bytes_in, object_in, optional}
 use Rattle.json_members.specs.Forms.{HasText, HasNumber, HasDecimal, HasBytes, HasObject}
 use Rattle.json_members.specs.Forms.{HasOptional}
-use Rattle.json_members.specs.Members.{without_all, put_all, put_optional, Lacks, IsPlain}
-use Rattle.luks_json.specs.declared.keyslot.SlotArea.{SlotArea}
-use Rattle.luks_json.specs.declared.keyslot.Pbkdf2.{Pbkdf2}
-use Rattle.luks_json.specs.declared.keyslot.Derivation.{Derivation}
-use Rattle.luks_json.specs.declared.keyslot.Derivation.TheVariants as derivations
-use Rattle.luks_json.specs.declared.keyslot.Kdf.{Kdf}
-use Rattle.luks_json.specs.declared.keyslot.Splitter.{Splitter}
-use Rattle.luks_json.specs.declared.keyslot.Priority.{Priority}
-use Rattle.luks_json.specs.declared.keyslot.Priority.TheVariants.{Ignore, Normal, High}
-use Rattle.luks_json.specs.declared.keyslot.Luks2.{Luks2}
-use Rattle.luks_json.specs.declared.keyslot.OtherArea.{OtherArea}
-use Rattle.luks_json.specs.declared.keyslot.OtherSlot.{OtherSlot}
-use Rattle.luks_json.specs.declared.keyslot.Keyslot.{Keyslot}
-use Rattle.luks_json.specs.declared.keyslot.Keyslot.TheVariants as keyslots
-use Rattle.luks_json.specs.declared.keyslot.Origin.{Origin}
-use Rattle.luks_json.specs.declared.keyslot.Origin.TheVariants.{Own, Foreign}
-use Rattle.luks_json.specs.declared.keyslot.SlotType.{SlotType}
-use Rattle.luks_json.specs.declared.keyslot.SlotType.TheVariants as types
-use Rattle.luks_json.specs.Names.{is_iterations, iterations_of}
-use Rattle.luks_json.specs.Reencrypts.{reencrypt_of, reencrypt_members, HasReencrypt, IsReencrypt}
+use Rattle.json_members.specs.Members.{without_all, put_all, put_optional}
+use Rattle.luks_meta.specs.declared.keyslot.SlotArea.{SlotArea}
+use Rattle.luks_meta.specs.declared.keyslot.Pbkdf2.{Pbkdf2}
+use Rattle.luks_meta.specs.declared.keyslot.Derivation.{Derivation}
+use Rattle.luks_meta.specs.declared.keyslot.Derivation.TheVariants as derivations
+use Rattle.luks_meta.specs.declared.keyslot.Kdf.{Kdf}
+use Rattle.luks_meta.specs.declared.keyslot.Splitter.{Splitter}
+use Rattle.luks_meta.specs.declared.keyslot.Priority.{Priority}
+use Rattle.luks_meta.specs.declared.keyslot.Priority.TheVariants.{Ignore, Normal, High}
+use Rattle.luks_meta.specs.declared.keyslot.Luks2.{Luks2}
+use Rattle.luks_meta.specs.declared.keyslot.OtherArea.{OtherArea}
+use Rattle.luks_meta.specs.declared.keyslot.OtherSlot.{OtherSlot}
+use Rattle.luks_meta.specs.declared.keyslot.Keyslot.{Keyslot}
+use Rattle.luks_meta.specs.declared.keyslot.Keyslot.TheVariants as keyslots
+use Rattle.luks_meta.specs.declared.keyslot.Origin.{Origin}
+use Rattle.luks_meta.specs.declared.keyslot.Origin.TheVariants.{Own}
+use Rattle.luks_meta.specs.declared.keyslot.SlotType.{SlotType}
+use Rattle.luks_meta.specs.declared.keyslot.SlotType.TheVariants as types
+use Rattle.luks_meta.specs.Names.{is_iterations, iterations_of}
+use Rattle.luks_json.specs.Reencrypts.{reencrypt_of, reencrypt_members, HasReencrypt}
+use Rattle.luks_meta.specs.Keyslots.{slot_area_names, kdf_names, splitter_names, luks2_names}
+use Rattle.luks_meta.specs.Keyslots.{other_area_names, other_names, slot_type, priority_number}
 
 -- ---- from members to a keyslot
-abbrev pub slot_area_names : List (List ℕ)
-slot_area_names =
-    codes "type" ∷ codes "encryption" ∷ codes "key_size" ∷ codes "offset" ∷ codes "size" ∷ []
-
 unfoldable pub slot_area_of : List ℕ → Members → Result SlotArea JsonFault
 slot_area_of path ms = do
   _ ← word_in (codes "raw") path (codes "type") ms
@@ -66,19 +64,11 @@ derivation_by true kind path ms = do
   Ok (derivations.Pbkdf2 k)
 derivation_by false kind path ms = Ok (derivations.Unknown kind)
 
-abbrev pub kdf_names : Derivation → List (List ℕ)
-kdf_names (derivations.Pbkdf2 k) =
-    codes "type" ∷ codes "hash" ∷ codes "iterations" ∷ codes "salt" ∷ []
-kdf_names (derivations.Unknown kind) = codes "type" ∷ []
-
 unfoldable pub kdf_of : List ℕ → Members → Result Kdf JsonFault
 kdf_of path ms = do
   kind ← text_in path (codes "type") ms
   derivation ← derivation_by (bytes_eq kind (codes "pbkdf2")) kind path ms
   Ok (record { derivation = derivation; rest = without_all (kdf_names derivation) ms })
-
-abbrev pub splitter_names : List (List ℕ)
-splitter_names = codes "type" ∷ codes "stripes" ∷ codes "hash" ∷ []
 
 unfoldable pub splitter_of : List ℕ → Members → Result Splitter JsonFault
 splitter_of path ms = do
@@ -91,11 +81,6 @@ abbrev pub priority_of : ℕ → Option Priority
 priority_of n =
     if n == 0 then Some Ignore else
     (if n == 1 then Some Normal else (if n == 2 then Some High else None))
-
-abbrev pub luks2_names : List (List ℕ)
-luks2_names =
-    codes "type" ∷ codes "key_size" ∷ codes "area" ∷ codes "kdf" ∷ codes "af" ∷ codes "priority"
-    ∷ []
 
 unfoldable pub luks2_of : List ℕ → Members → Result Luks2 JsonFault
 luks2_of path ms = do
@@ -117,9 +102,6 @@ luks2_of path ms = do
         without_all luks2_names ms;
   })
 
-abbrev pub other_area_names : List (List ℕ)
-other_area_names = codes "offset" ∷ codes "size" ∷ []
-
 unfoldable pub other_area_of : List ℕ → Members → Result OtherArea JsonFault
 other_area_of path ms = do
   offset ← decimal_in path (codes "offset") ms
@@ -131,24 +113,10 @@ other_area_in path ms = do
   area_members ← object_in path (codes "area") ms
   other_area_of (under path (codes "area")) area_members
 
-abbrev pub other_names : List (List ℕ)
-other_names = codes "type" ∷ codes "area" ∷ []
-
 unfoldable pub other_of : List ℕ → List ℕ → Members → Result OtherSlot JsonFault
 other_of kind path ms = do
   area ← optional (codes "area") ms (other_area_in path ms)
   Ok (record { kind = kind; area = area; rest = without_all other_names ms })
-
-abbrev pub is_own : Origin → Bool
-is_own Own = true
-is_own Foreign = false
-
--- by which table a keyslot of a type is read: in a header that asks for something foreign, one of
--- the type reencrypt is as any other
-abbrev pub slot_type : Origin → List ℕ → SlotType
-slot_type origin kind =
-    if bytes_eq kind (codes "luks2") then types.Luks2 else
-    (if bytes_eq kind (codes "reencrypt") && is_own origin then types.Reencrypt else types.Unknown)
 
 abbrev pub keyslot_by : SlotType → List ℕ → List ℕ → Members → Result Keyslot JsonFault
 keyslot_by types.Luks2 kind path ms = do
@@ -194,11 +162,6 @@ splitter_fields s =
 
 unfoldable pub splitter_members : Splitter → Members
 splitter_members s = put_all (splitter_fields s) s.rest
-
-abbrev pub priority_number : Priority → ℕ
-priority_number Ignore = 0
-priority_number Normal = 1
-priority_number High = 2
 
 abbrev pub luks2_fields : Luks2 → List (List ℕ × Data)
 luks2_fields s =
@@ -292,50 +255,3 @@ HasKeyslot origin ms (keyslots.Reencrypt s) =
     HasText (codes "type") (codes "reencrypt") ms × (origin ≡ Own) × HasReencrypt ms s
 HasKeyslot origin ms (keyslots.Unknown s) =
     HasText (codes "type") s.kind ms × (slot_type origin s.kind ≡ types.Unknown) × HasOther ms s
-
--- ---- keyslots that have a text
-pub record IsSlotArea (a : SlotArea) : Type 0 where
-  pub offset : a.offset < 2 ^ 64
-  pub size : a.size < 2 ^ 64
-  pub lacks : Lacks slot_area_names a.rest
-  pub plain : IsPlain 123 a.rest
-
-pub record IsPbkdf2 (k : Pbkdf2) : Type 0 where
-  pub iterations : is_iterations k.iterations ≡ true
-  pub salt : IsBytes k.salt
-
-abbrev pub IsDerivation : Derivation → Type 0
-IsDerivation (derivations.Pbkdf2 k) = IsPbkdf2 k
-IsDerivation (derivations.Unknown kind) = bytes_eq kind (codes "pbkdf2") ≡ false
-
-pub record IsKdf (k : Kdf) : Type 0 where
-  pub derivation : IsDerivation k.derivation
-  pub lacks : Lacks (kdf_names k.derivation) k.rest
-  pub plain : IsPlain 123 k.rest
-
-pub record IsSplitter (s : Splitter) : Type 0 where
-  pub lacks : Lacks splitter_names s.rest
-  pub plain : IsPlain 123 s.rest
-
-pub record IsLuks2 (s : Luks2) : Type 0 where
-  pub area : IsSlotArea s.area
-  pub kdf : IsKdf s.kdf
-  pub af : IsSplitter s.af
-  pub lacks : Lacks luks2_names s.rest
-  pub plain : IsPlain 124 s.rest
-
-pub record IsOtherArea (a : OtherArea) : Type 0 where
-  pub offset : a.offset < 2 ^ 64
-  pub size : a.size < 2 ^ 64
-  pub lacks : Lacks other_area_names a.rest
-  pub plain : IsPlain 123 a.rest
-
-pub record IsOther (s : OtherSlot) : Type 0 where
-  pub area : IfSome s.area IsOtherArea
-  pub lacks : Lacks other_names s.rest
-  pub plain : IsPlain 124 s.rest
-
-abbrev pub IsKeyslot : Origin → Keyslot → Type 0
-IsKeyslot origin (keyslots.Luks2 s) = IsLuks2 s
-IsKeyslot origin (keyslots.Reencrypt s) = (origin ≡ Own) × IsReencrypt s
-IsKeyslot origin (keyslots.Unknown s) = (slot_type origin s.kind ≡ types.Unknown) × IsOther s

@@ -3,7 +3,6 @@ pub mod Digests
 pub mod Keyslots
 pub mod MetaForms
 pub mod Metas
-pub mod Names
 pub mod Reencrypts
 pub mod Segments
 pub mod Tokens

@@ -5,13 +5,14 @@ use Rattle.serde_json.specs.Written.{has_float}
 use Rattle.json_members.specs.Entries.{numbered_in}
 use Rattle.json_members.specs.Forms.{HasObject}
 use Rattle.json_members.specs.Members.{without_all}
-use Rattle.luks_json.specs.Configs.{HasConfig, origin_of}
+use Rattle.luks_json.specs.Configs.{HasConfig}
+use Rattle.luks_meta.specs.Configs.{origin_of}
 use Rattle.luks_json.specs.Digests.{HasDigest}
 use Rattle.luks_json.specs.Keyslots.{HasKeyslot}
-use Rattle.luks_json.specs.Metas.{meta_names}
+use Rattle.luks_meta.specs.Metas.{meta_names}
 use Rattle.luks_json.specs.Segments.{HasSegment}
-use Rattle.luks_json.specs.declared.meta.Parts.{Parts}
-use Rattle.luks_json.specs.declared.token.Token.{Token}
+use Rattle.luks_meta.specs.declared.meta.Parts.{Parts}
+use Rattle.luks_meta.specs.declared.token.Token.{Token}
 
 -- each value is an object, and its members have this form
 abbrev pub HaveForm : {X : Type 0} → (Members → X → Type 0) → List (ℕ × Data) → List (ℕ × X)

@@ -11,16 +11,17 @@ use Rattle.json_members.specs.declared.faults.JsonFaultKind.TheVariants.{NotJson
 use Rattle.json_members.specs.declared.faults.JsonFaultKind.TheVariants.{Number}
 use Rattle.json_members.specs.Fields.{◌>>=◌, required, object_in}
 use Rattle.json_members.specs.Floats.{float_in}
-use Rattle.json_members.specs.Members.{without_all, put_all, Lacks, IsPlain}
-use Rattle.json_members.specs.Entries.{objects_in, objects_members, AreEntries}
-use Rattle.luks_json.specs.declared.config.Config.{Config}
-use Rattle.luks_json.specs.declared.meta.Parts.{Parts}
-use Rattle.luks_json.specs.Configs.{config_of, config_members, IsConfig, origin_of}
+use Rattle.json_members.specs.Members.{without_all, put_all}
+use Rattle.json_members.specs.Entries.{objects_in, objects_members}
+use Rattle.luks_meta.specs.declared.config.Config.{Config}
+use Rattle.luks_meta.specs.declared.meta.Parts.{Parts}
+use Rattle.luks_json.specs.Configs.{config_of, config_members}
 use Rattle.luks_json.specs.Configs.{origin_in}
-use Rattle.luks_json.specs.Digests.{digest_of, digest_members, IsDigest}
-use Rattle.luks_json.specs.Keyslots.{keyslot_of, keyslot_members, IsKeyslot}
-use Rattle.luks_json.specs.Segments.{segment_of, segment_members, IsSegment}
-use Rattle.luks_json.specs.Tokens.{token_of, token_members, IsToken}
+use Rattle.luks_json.specs.Digests.{digest_of, digest_members}
+use Rattle.luks_json.specs.Keyslots.{keyslot_of, keyslot_members}
+use Rattle.luks_json.specs.Segments.{segment_of, segment_members}
+use Rattle.luks_json.specs.Tokens.{token_of, token_members}
+use Rattle.luks_meta.specs.Metas.{meta_names}
 
 -- the path of the whole
 abbrev pub top : List ℕ
@@ -30,10 +31,6 @@ abbrev pub text_fault : JsonFaultKind → JsonFault
 text_fault what = record { kind = what; path = top }
 
 -- ---- from a text to metadata
-abbrev pub meta_names : List (List ℕ)
-meta_names =
-    codes "keyslots" ∷ codes "tokens" ∷ codes "segments" ∷ codes "digests" ∷ codes "config" ∷ []
-
 -- this top member is there
 unfoldable pub there_in : List ℕ → Members → Result (Unit {0}) JsonFault
 there_in name ms = do
@@ -119,13 +116,3 @@ meta_members m = put_all (meta_fields m) m.rest
 -- the value that metadata are written as
 unfoldable pub data_of : Parts → Data
 data_of m = object (meta_members m)
-
--- ---- metadata that have a text
-pub record IsMeta (m : Parts) : Type 0 where
-  pub keyslots : AreEntries (IsKeyslot (origin_of m.config)) m.keyslots
-  pub tokens : AreEntries IsToken m.tokens
-  pub segments : AreEntries IsSegment m.segments
-  pub digests : AreEntries IsDigest m.digests
-  pub config : IsConfig m.config
-  pub lacks : Lacks meta_names m.rest
-  pub plain : IsPlain 126 m.rest

@@ -1,5 +1,5 @@
 -- The keyslot of a conversion as the members of an object.
-use Rattle.std.specs.Prelude.{◌≡◌, ℕ, ◌^◌, ◌<◌, ◌==◌, List, [], ◌∷◌, codes, Option, Some, None}
+use Rattle.std.specs.Prelude.{◌≡◌, ℕ, ◌==◌, List, [], ◌∷◌, codes, Option, Some, None}
 use Rattle.std.specs.Prelude.{Result, Ok, if◌then◌else◌, decimal}
 use Rattle.std.specs.Str.{bytes_eq}
 use Rattle.serde_json.specs.Data.{Data, string, number, unsigned, object, Members}
@@ -8,48 +8,21 @@ use Rattle.json_members.specs.declared.faults.JsonFaultKind.TheVariants.{Unsuppo
 use Rattle.json_members.specs.Fields.{◌>>=◌, under, meant_in, word_in, number_in, counted_in}
 use Rattle.json_members.specs.Fields.{decimal_in, object_in}
 use Rattle.json_members.specs.Forms.{HasText, HasNumber, HasDecimal, HasObject}
-use Rattle.json_members.specs.Members.{without_all, put_all, Lacks, IsPlain}
-use Rattle.luks_json.specs.declared.reencrypt.Mode.{Mode}
-use Rattle.luks_json.specs.declared.reencrypt.Mode.TheVariants as modes
-use Rattle.luks_json.specs.declared.reencrypt.Direction.{Direction}
-use Rattle.luks_json.specs.declared.reencrypt.Direction.TheVariants.{Forward, Backward}
-use Rattle.luks_json.specs.declared.reencrypt.Resilience.{Resilience}
-use Rattle.luks_json.specs.declared.reencrypt.Resilience.TheVariants.{Journal, Checksum, Datashift}
+use Rattle.json_members.specs.Members.{without_all, put_all}
+use Rattle.luks_meta.specs.declared.reencrypt.Resilience.{Resilience}
+use Rattle.luks_meta.specs.declared.reencrypt.Resilience.TheVariants.{Journal, Checksum, Datashift}
 use Rattle.luks_json.specs.declared.reencrypt.AreaType.{AreaType}
 use Rattle.luks_json.specs.declared.reencrypt.AreaType.TheVariants as types
-use Rattle.luks_json.specs.declared.reencrypt.ReencryptArea.{ReencryptArea}
-use Rattle.luks_json.specs.declared.reencrypt.Reencrypt.{Reencrypt}
-
-abbrev pub mode_name : Mode → List ℕ
-mode_name modes.Reencrypt = codes "reencrypt"
-mode_name modes.Encrypt = codes "encrypt"
-mode_name modes.Decrypt = codes "decrypt"
-
-abbrev pub mode_named : List ℕ → Option Mode
-mode_named name =
-    if bytes_eq name (codes "reencrypt") then Some modes.Reencrypt else
-    (if bytes_eq name (codes "encrypt") then Some modes.Encrypt else
-    (if bytes_eq name (codes "decrypt") then Some modes.Decrypt else None))
-
-abbrev pub direction_name : Direction → List ℕ
-direction_name Forward = codes "forward"
-direction_name Backward = codes "backward"
-
-abbrev pub direction_named : List ℕ → Option Direction
-direction_named name =
-    if bytes_eq name (codes "forward") then Some Forward else
-    (if bytes_eq name (codes "backward") then Some Backward else None)
+use Rattle.luks_meta.specs.declared.reencrypt.ReencryptArea.{ReencryptArea}
+use Rattle.luks_meta.specs.declared.reencrypt.Reencrypt.{Reencrypt}
+use Rattle.luks_meta.specs.Reencrypts.{mode_name, mode_named, direction_name, direction_named}
+use Rattle.luks_meta.specs.Reencrypts.{area_type_name, area_names, reencrypt_names}
 
 abbrev pub area_type_named : List ℕ → Option AreaType
 area_type_named name =
     if bytes_eq name (codes "journal") then Some types.Journal else
     (if bytes_eq name (codes "checksum") then Some types.Checksum else
     (if bytes_eq name (codes "datashift") then Some types.Datashift else None))
-
-abbrev pub area_type_name : Resilience → List ℕ
-area_type_name Journal = codes "journal"
-area_type_name (Checksum n) = codes "checksum"
-area_type_name (Datashift n) = codes "datashift"
 
 -- ---- from members to a keyslot
 unfoldable pub checksum_in : List ℕ → Members → Result ℕ JsonFault
@@ -65,12 +38,6 @@ resilience_by types.Checksum path ms = do
 resilience_by types.Datashift path ms = do
   shift_size ← decimal_in path (codes "shift_size") ms
   Ok (Datashift shift_size)
-
-abbrev pub area_names : Resilience → List (List ℕ)
-area_names Journal = codes "type" ∷ codes "offset" ∷ codes "size" ∷ []
-area_names (Checksum n) =
-    codes "type" ∷ codes "offset" ∷ codes "size" ∷ codes "hash" ∷ codes "sector_size" ∷ []
-area_names (Datashift n) = codes "type" ∷ codes "offset" ∷ codes "size" ∷ codes "shift_size" ∷ []
 
 unfoldable pub area_of : List ℕ → Members → Result ReencryptArea JsonFault
 area_of path ms = do
@@ -89,10 +56,6 @@ area_of path ms = do
 -- the key_size that the keyslot of a conversion has
 abbrev pub only_one : ℕ → Option (Unit {0})
 only_one n = if n == 1 then Some (tt {0}) else None
-
-abbrev pub reencrypt_names : List (List ℕ)
-reencrypt_names =
-    codes "type" ∷ codes "key_size" ∷ codes "mode" ∷ codes "direction" ∷ codes "area" ∷ []
 
 -- the keyslot that an object of the type reencrypt is, or its first fault
 unfoldable pub reencrypt_of : List ℕ → Members → Result Reencrypt JsonFault
@@ -157,21 +120,3 @@ pub record HasReencrypt (ms : Members) (s : Reencrypt) : Type 0 where
   pub direction : HasText (codes "direction") (direction_name s.direction) ms
   pub area : (inner : Members) × HasObject (codes "area") inner ms × HasArea inner s.area
   pub rest : s.rest ≡ without_all reencrypt_names ms
-
--- ---- keyslots that have a text
-abbrev pub IsResilience : Resilience → Type 0
-IsResilience Journal = Unit {0}
-IsResilience (Checksum n) = Unit {0}
-IsResilience (Datashift n) = n < 2 ^ 64
-
-pub record IsArea (a : ReencryptArea) : Type 0 where
-  pub resilience : IsResilience a.resilience
-  pub offset : a.offset < 2 ^ 64
-  pub size : a.size < 2 ^ 64
-  pub lacks : Lacks (area_names a.resilience) a.rest
-  pub plain : IsPlain 123 a.rest
-
-pub record IsReencrypt (s : Reencrypt) : Type 0 where
-  pub area : IsArea s.area
-  pub lacks : Lacks reencrypt_names s.rest
-  pub plain : IsPlain 124 s.rest

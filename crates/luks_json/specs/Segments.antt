@@ -1,5 +1,5 @@
 -- A segment as the members of an object.
-use Rattle.std.specs.Prelude.{◌≡◌, ℕ, ◌^◌, ◌<◌, ◌||◌, ◌==◌, List, [], ◌∷◌, codes, Bool, true}
+use Rattle.std.specs.Prelude.{◌≡◌, ℕ, List, [], ◌∷◌, codes, true}
 use Rattle.std.specs.Prelude.{Option, Some, None, option_map, Result, Ok, if◌then◌else◌}
 use Rattle.std.specs.Prelude.{decimal, IfSome}
 use Rattle.std.specs.Str.{bytes_eq}
@@ -10,14 +10,15 @@ use Rattle.json_members.specs.Decimals.{number_of}
 use Rattle.json_members.specs.Fields.{◌>>=◌, meant_in, counted_in, decimal_in, texts_in, optional}
 use Rattle.json_members.specs.Fields.{absent, texts_data}
 use Rattle.json_members.specs.Forms.{HasNone, HasText, HasNumber, HasDecimal, HasTexts, HasOptional}
-use Rattle.json_members.specs.Members.{without_all, put_all, put_optional, Lacks, IsPlain}
-use Rattle.luks_json.specs.declared.segment.Segment.{Segment}
-use Rattle.luks_json.specs.declared.segment.Encryption.{Encryption}
-use Rattle.luks_json.specs.declared.segment.SegmentSize.{SegmentSize}
-use Rattle.luks_json.specs.declared.segment.SegmentSize.TheVariants.{Dynamic, Sized}
+use Rattle.json_members.specs.Members.{without_all, put_all, put_optional}
+use Rattle.luks_meta.specs.declared.segment.Segment.{Segment}
+use Rattle.luks_meta.specs.declared.segment.Encryption.{Encryption}
+use Rattle.luks_meta.specs.declared.segment.SegmentSize.{SegmentSize}
+use Rattle.luks_meta.specs.declared.segment.SegmentSize.TheVariants.{Dynamic, Sized}
 use Rattle.luks_json.specs.declared.segment.SegmentType.{SegmentType}
 use Rattle.luks_json.specs.declared.segment.SegmentType.TheVariants.{Crypt, Linear}
-use Rattle.luks_json.specs.Names.{cipher_name, cipher_named}
+use Rattle.luks_meta.specs.Names.{cipher_name, cipher_named}
+use Rattle.luks_meta.specs.Segments.{is_sector_size, segment_names, IsSize}
 
 abbrev pub type_named : List ℕ → Option SegmentType
 type_named name =
@@ -27,9 +28,6 @@ type_named name =
 abbrev pub size_named : List ℕ → Option SegmentSize
 size_named text =
     if bytes_eq text (codes "dynamic") then Some Dynamic else option_map Sized (number_of text)
-
-abbrev pub is_sector_size : ℕ → Bool
-is_sector_size n = (n == 512) || (n == 1024) || (n == 2048) || (n == 4096)
 
 abbrev pub sector_size_of : ℕ → Option ℕ
 sector_size_of n = if is_sector_size n then Some n else None
@@ -47,13 +45,6 @@ encryption_by Crypt path ms = do
   e ← encryption_in path ms
   Ok (Some e)
 encryption_by Linear path ms = Ok None
-
--- the names of a segment's members
-abbrev pub segment_names : Option Encryption → List (List ℕ)
-segment_names None = codes "type" ∷ codes "offset" ∷ codes "size" ∷ codes "flags" ∷ []
-segment_names (Some e) =
-    codes "type" ∷ codes "offset" ∷ codes "size" ∷ codes "flags" ∷ codes "iv_tweak"
-    ∷ codes "encryption" ∷ codes "sector_size" ∷ []
 
 -- the segment that an object is, or its first fault
 unfoldable pub segment_of : List ℕ → Members → Result Segment JsonFault
@@ -107,10 +98,6 @@ segment_members s =
     (put_all (segment_fields s) (put_optional (codes "flags") (flags_data s.flags) s.rest))
 
 -- ---- which members, of which form
-abbrev pub IsSize : SegmentSize → Type 0
-IsSize Dynamic = Unit {0}
-IsSize (Sized n) = n < 2 ^ 64
-
 pub record HasEncryption (ms : Members) (e : Encryption) : Type 0 where
   pub iv_tweak : HasDecimal (codes "iv_tweak") e.iv_tweak ms
   pub cipher : HasText (codes "encryption") (cipher_name e.cipher) ms
@@ -126,15 +113,3 @@ pub record HasSegment (ms : Members) (s : Segment) : Type 0 where
   pub encryption : IfSome s.encryption (HasEncryption ms)
   pub flags : HasOptional (codes "flags") (λ flags. HasTexts (codes "flags") flags ms) s.flags ms
   pub rest : s.rest ≡ without_all (segment_names s.encryption) ms
-
--- ---- segments that have a text
-pub record IsEncryption (e : Encryption) : Type 0 where
-  pub iv_tweak : e.iv_tweak < 2 ^ 64
-  pub sector_size : is_sector_size e.sector_size ≡ true
-
-pub record IsSegment (s : Segment) : Type 0 where
-  pub offset : s.offset < 2 ^ 64
-  pub size : IsSize s.size
-  pub encryption : IfSome s.encryption IsEncryption
-  pub lacks : Lacks (codes "integrity" ∷ segment_names s.encryption) s.rest
-  pub plain : IsPlain 124 s.rest

@@ -19,36 +19,13 @@ ghost use Rattle.luks_json.specs.Configs.{
   origin_in,
 };
 
-use crate::keyslot::Origin;
 use json_members::{
-    JsonFaultKind, Listed, Object, ReadError, Text, copy_texts, decimal_at, decimal_number,
-    fault_at, object_at, path_of, put_decimal, put_object, put_texts, text_at, texts_at,
+    JsonFaultKind, Object, ReadError, decimal_at, decimal_number, fault_at, object_at, path_of,
+    put_decimal, put_object, put_texts, text_at, texts_at,
 };
+use luks_meta::{Config, Origin, PROFILE, Requirements};
 use serde_json::Value;
 use std::alloc::{AllocError, Global};
-
-/// The requirement that a header has while this program converts it.
-pub const PROFILE: &str = "reencd-online-reencrypt-v1";
-
-/// What a reader of the header must know.
-#[derive(Drop)]
-pub struct Requirements {
-    pub mandatory: Listed<Text>,
-    /// The members that have no name here, as they were read.
-    pub rest: Object,
-}
-
-/// The sizes of the header's areas, and the requirements.
-#[derive(Drop)]
-pub struct Config {
-    /// The bytes of one copy's JSON area: those of the copy less 4096.
-    pub json_size: u64,
-    /// The bytes of the keyslots' area.
-    pub keyslots_size: u64,
-    pub requirements: Option<Requirements>,
-    /// The members that have no name here, as they were read.
-    pub rest: Object,
-}
 
 #[tactic(auto, unfolding(crate::specs::Configs::requirements_of))]
 fn read_requirements(alloc: Global, path: &str, object: Object) -> Result<Requirements, ReadError>
@@ -181,36 +158,6 @@ pub(crate) fn write_config(alloc: Global, config: &Config) -> Result<Object, All
     put_decimal(alloc, &mut object, "json_size", config.json_size)?;
     put_decimal(alloc, &mut object, "keyslots_size", config.keyslots_size)?;
     Ok(object)
-}
-
-impl Requirements {
-    /// The same again.
-    pub fn copy(&self, alloc: Global) -> Result<Requirements, AllocError>
-        ensures { IfOk result (λ r. r ≡ self.now) }
-    {
-        Ok(Requirements {
-            mandatory: copy_texts(alloc, self.mandatory.as_slice())?,
-            rest: self.rest.copy(alloc)?,
-        })
-    }
-}
-
-impl Config {
-    /// The same again.
-    pub fn copy(&self, alloc: Global) -> Result<Config, AllocError>
-        ensures { IfOk result (λ c. c ≡ self.now) }
-    {
-        let requirements = match &self.requirements {
-            Some(requirements) => Some(requirements.copy(alloc)?),
-            None => None,
-        };
-        Ok(Config {
-            json_size: self.json_size,
-            keyslots_size: self.keyslots_size,
-            requirements,
-            rest: self.rest.copy(alloc)?,
-        })
-    }
 }
 
 fn asks_for_something_else(value: &Value) -> bool

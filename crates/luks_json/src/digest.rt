@@ -3,51 +3,17 @@
 ghost use Rattle.std.specs.Prelude.{◌≡◌, IfOk, codes};
 ghost use Rattle.json_members.specs.declared.faults.JsonFaultKind.TheVariants.{Unsupported};
 ghost use Rattle.json_members.specs.Fields.{Gives, meant_in};
-ghost use Rattle.luks_json.specs.Names.{hash_named};
+ghost use Rattle.luks_meta.specs.Names.{hash_named};
 ghost use Rattle.luks_json.specs.Digests.{digest_of, digest_members};
 
-use crate::names::{Hash, iterations_at};
-use base_terms::Bytes;
+use crate::entries::EntryText;
+use crate::iterations::iterations_at;
 use json_members::{
-    Entry, JsonFaultKind, Listed, Object, ReadError, bytes_at, copy_bytes, copy_numbers,
-    decimals_at, fault_at, put_bytes, put_decimals, put_number, put_text, text_at, word_at,
+    JsonFaultKind, Object, ReadError, bytes_at, decimals_at, fault_at, put_bytes, put_decimals,
+    put_number, put_text, text_at, word_at,
 };
+use luks_meta::{Digest, Hash};
 use std::alloc::{AllocError, Global};
-
-/// A digest of a key by PBKDF2 (RFC 8018): the type `pbkdf2`.
-pub struct Digest {
-    /// The numbers of the keyslots that hold the key, as they were read.
-    pub keyslots: Listed<u64>,
-    /// The numbers of the segments that are under the key, as they were read.
-    pub segments: Listed<u64>,
-    pub hash: Hash,
-    /// From 1 to 268435456.
-    pub iterations: u64,
-    pub salt: Bytes,
-    pub digest: Bytes,
-    /// The members that have no name here, as they were read.
-    pub rest: Object,
-}
-
-// By hand, so that a value that is dropped in place is one call to the prover.
-impl Drop for Digest {
-    fn drop(self) {
-        let Digest {
-            keyslots,
-            segments,
-            hash: _,
-            iterations: _,
-            salt,
-            digest,
-            rest,
-        } = self;
-        drop(keyslots);
-        drop(segments);
-        drop(salt);
-        drop(digest);
-        drop(rest);
-    }
-}
 
 #[tactic(auto, unfolding(json_members::specs::Fields::meant_in))]
 fn hash_at(alloc: Global, path: &str, object: &Object) -> Result<Hash, ReadError>
@@ -106,7 +72,7 @@ fn write_digest(alloc: Global, digest: &Digest) -> Result<Object, AllocError>
     Ok(object)
 }
 
-impl Entry for Digest {
+impl EntryText for Digest {
     ghost use Rattle.luks_json.specs.Digests.{digest_of, digest_members};
 
     type Terms = ();
@@ -121,17 +87,5 @@ impl Entry for Digest {
 
     fn write(&self, alloc: Global) -> Result<Object, AllocError> {
         write_digest(alloc, self)
-    }
-
-    fn copy(&self, alloc: Global) -> Result<Digest, AllocError> {
-        Ok(Digest {
-            keyslots: copy_numbers(alloc, self.keyslots.as_slice())?,
-            segments: copy_numbers(alloc, self.segments.as_slice())?,
-            hash: self.hash,
-            iterations: self.iterations,
-            salt: copy_bytes(alloc, self.salt.as_slice())?,
-            digest: copy_bytes(alloc, self.digest.as_slice())?,
-            rest: self.rest.copy(alloc)?,
-        })
     }
 }

@@ -4,12 +4,12 @@
 
 ghost use Rattle.std.specs.Prelude.{◌≡◌, ◌↔◌, ℕ, List, Ok};
 ghost use Rattle.serde_json.specs.Data.{Data, Members};
-ghost use Rattle.luks_json.specs.declared.config.Config.{Config as config};
-ghost use Rattle.luks_json.specs.declared.digest.Digest.{Digest as digest};
-ghost use Rattle.luks_json.specs.declared.keyslot.Keyslot.{Keyslot as keyslot};
-ghost use Rattle.luks_json.specs.declared.keyslot.Origin.{Origin as origin_type};
-ghost use Rattle.luks_json.specs.declared.meta.Parts.{Parts as parts_type};
-ghost use Rattle.luks_json.specs.declared.segment.Segment.{Segment as segment};
+ghost use Rattle.luks_meta.specs.declared.config.Config.{Config as config};
+ghost use Rattle.luks_meta.specs.declared.digest.Digest.{Digest as digest};
+ghost use Rattle.luks_meta.specs.declared.keyslot.Keyslot.{Keyslot as keyslot};
+ghost use Rattle.luks_meta.specs.declared.keyslot.Origin.{Origin as origin_type};
+ghost use Rattle.luks_meta.specs.declared.meta.Parts.{Parts as parts_type};
+ghost use Rattle.luks_meta.specs.declared.segment.Segment.{Segment as segment};
 ghost use Rattle.luks_json.specs.Configs.{config_of, HasConfig};
 ghost use Rattle.luks_json.specs.Digests.{digest_of, HasDigest};
 ghost use Rattle.luks_json.specs.Keyslots.{keyslot_of, HasKeyslot};

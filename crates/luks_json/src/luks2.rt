@@ -1,4 +1,4 @@
-// Reading, writing and copying a keyslot that a passphrase opens.
+// Reading and writing a keyslot that a passphrase opens.
 
 ghost use Rattle.std.specs.Prelude.{◌≡◌, IfOk, OnOk, codes, option_map};
 ghost use Rattle.serde_json.specs.Data.{number, unsigned};
@@ -14,18 +14,17 @@ ghost use Rattle.luks_json.specs.Keyslots.{
   splitter_of,
   splitter_members,
   priority_of,
-  priority_number,
   luks2_of,
   luks2_members,
 };
+ghost use Rattle.luks_meta.specs.Keyslots.{priority_number};
 
-use crate::keyslot::{Derivation, Kdf, Luks2, Pbkdf2, Priority, SlotArea, Splitter};
-use crate::names::iterations_at;
+use crate::iterations::iterations_at;
 use json_members::{
-    JsonFaultKind, Object, ReadError, bytes_at, copy_bytes, decimal_at, fault_at, number_at,
-    object_at, own_text_at, path_of, put_bytes, put_decimal, put_number, put_object, put_text,
-    word_at,
+    JsonFaultKind, Object, ReadError, bytes_at, decimal_at, fault_at, number_at, object_at,
+    own_text_at, path_of, put_bytes, put_decimal, put_number, put_object, put_text, word_at,
 };
+use luks_meta::{Derivation, Kdf, Luks2, Pbkdf2, Priority, SlotArea, Splitter};
 use std::alloc::{AllocError, Global};
 
 #[tactic(auto, unfolding(crate::specs::Keyslots::slot_area_of))]
@@ -226,19 +225,6 @@ fn write_splitter(alloc: Global, af: &Splitter) -> Result<Object, AllocError>
     Ok(object)
 }
 
-impl Priority {
-    /// The priority's number.
-    pub fn number(self) -> u64
-        ensures { result ≡ priority_number self }
-    {
-        match self {
-            Priority::Ignore => 0,
-            Priority::Normal => 1,
-            Priority::High => 2,
-        }
-    }
-}
-
 fn put_priority(
     alloc: Global,
     object: &mut Object,
@@ -271,68 +257,4 @@ pub(crate) fn write_luks2(alloc: Global, slot: &Luks2) -> Result<Object, AllocEr
     let af = write_splitter(alloc, &slot.af)?;
     put_object(alloc, &mut object, "af", af)?;
     Ok(object)
-}
-
-impl Luks2 {
-    /// The same again.
-    pub fn copy(&self, alloc: Global) -> Result<Luks2, AllocError>
-        ensures { IfOk result (λ s. s ≡ self.now) }
-    {
-        Ok(Luks2 {
-            key_size: self.key_size,
-            area: self.area.copy(alloc)?,
-            kdf: self.kdf.copy(alloc)?,
-            af: self.af.copy(alloc)?,
-            priority: self.priority,
-            rest: self.rest.copy(alloc)?,
-        })
-    }
-}
-
-impl SlotArea {
-    /// The same again.
-    pub fn copy(&self, alloc: Global) -> Result<SlotArea, AllocError>
-        ensures { IfOk result (λ a. a ≡ self.now) }
-    {
-        Ok(SlotArea {
-            encryption: self.encryption.copy(alloc)?,
-            key_size: self.key_size,
-            offset: self.offset,
-            size: self.size,
-            rest: self.rest.copy(alloc)?,
-        })
-    }
-}
-
-impl Kdf {
-    /// The same again.
-    pub fn copy(&self, alloc: Global) -> Result<Kdf, AllocError>
-        ensures { IfOk result (λ k. k ≡ self.now) }
-    {
-        let derivation = match &self.derivation {
-            Derivation::Pbkdf2(pbkdf2) => Derivation::Pbkdf2(Pbkdf2 {
-                hash: pbkdf2.hash.copy(alloc)?,
-                iterations: pbkdf2.iterations,
-                salt: copy_bytes(alloc, pbkdf2.salt.as_slice())?,
-            }),
-            Derivation::Unknown(kind) => Derivation::Unknown(kind.copy(alloc)?),
-        };
-        Ok(Kdf {
-            derivation,
-            rest: self.rest.copy(alloc)?,
-        })
-    }
-}
-
-impl Splitter {
-    /// The same again.
-    pub fn copy(&self, alloc: Global) -> Result<Splitter, AllocError>
-        ensures { IfOk result (λ s. s ≡ self.now) }
-    {
-        Ok(Splitter {
-            stripes: self.stripes,
-            hash: self.hash.copy(alloc)?,
-            rest: self.rest.copy(alloc)?,
-        })
-    }
 }

@@ -5,82 +5,21 @@ ghost use Rattle.serde_json.specs.View.{view};
 ghost use Rattle.serde_json.specs.Written.{compact_text};
 ghost use Rattle.json_members.specs.Fields.{Gives};
 ghost use Rattle.json_members.specs.Members.{without};
-ghost use Rattle.luks_json.specs.Metas.{meta_names, there_in, all_there, list_in, config_in};
+ghost use Rattle.luks_meta.specs.Metas.{meta_names};
+ghost use Rattle.luks_json.specs.Metas.{there_in, all_there, list_in, config_in};
 ghost use Rattle.luks_json.specs.Metas.{parts_of, whole_of, meta_of, meta_from, meta_members};
 ghost use Rattle.luks_json.specs.Metas.{data_of};
 
-use crate::config::{Config, origin_at, read_config, write_config};
-use crate::digest::Digest;
-use crate::keyslot::Keyslot;
-use crate::segment::Segment;
-use crate::token::Token;
+use crate::config::{origin_at, read_config, write_config};
+use crate::entries::{EntryText, read_entries, write_entries};
 use base_terms::Bytes;
 use json_members::{
-    Entry, JsonFault, JsonFaultKind, Listed, Object, ReadError, Text, copy_entries, fault_at,
-    first_float, put_object, read_entries, take_object, write_entries,
+    JsonFault, JsonFaultKind, Listed, Object, ReadError, Text, fault_at, first_float, put_object,
+    take_object,
 };
+use luks_meta::{Config, Digest, Keyslot, Meta, Parts, Segment, Token};
 use serde_json::Value;
 use std::alloc::{AllocError, Global};
-use std::marker::Model;
-
-/// The objects of a header, each list by rising number.
-pub struct Parts {
-    pub keyslots: Listed<(u64, Keyslot)>,
-    pub tokens: Listed<(u64, Token)>,
-    pub segments: Listed<(u64, Segment)>,
-    pub digests: Listed<(u64, Digest)>,
-    pub config: Config,
-    /// The members that have no name here, as they were read.
-    pub rest: Object,
-}
-
-// By hand, so that a value that is dropped in place is one call to the prover.
-impl Drop for Parts {
-    fn drop(self) {
-        let Parts {
-            keyslots,
-            tokens,
-            segments,
-            digests,
-            config,
-            rest,
-        } = self;
-        drop(keyslots);
-        drop(tokens);
-        drop(segments);
-        drop(digests);
-        drop(config);
-        drop(rest);
-    }
-}
-
-/// The metadata of a header, which contracts see as its parts. They have a text.
-pub struct Meta {
-    parts: Parts,
-}
-
-impl Drop for Meta {
-    fn drop(self) {
-        let Meta { parts } = self;
-        drop(parts);
-    }
-}
-
-impl Model for Meta {
-    ghost use Rattle.luks_json.specs.declared.meta.Parts.{Parts};
-
-    ghost Value = { Parts };
-
-    ghost use Rattle.luks_json.specs.contracts.meta.Parts as parts_type;
-
-    ghost coded = { parts_type.the_row.coded };
-
-    ghost use Rattle.luks_json.specs.Metas.{IsMeta};
-
-    ghost view = { λ meta. meta.parts };
-
-    ghost invariant = { λ meta. IsMeta meta.parts };
-}
 
 // Looks whether a top member is there.
 #[tactic(auto, unfolding(crate::specs::Metas::there_in))]
@@ -107,7 +46,7 @@ fn look_for_all(alloc: Global, object: &Object) -> Result<(), ReadError>
 
 // The objects of a top member, which is taken out: its tree goes while they are made.
 #[tactic(auto, unfolding(crate::specs::Metas::list_in))]
-fn take_list<E: Entry>(
+fn take_list<E: EntryText>(
     alloc: Global,
     terms: &E::Terms,
     object: &mut Object,
@@ -216,80 +155,35 @@ fn value_of(alloc: Global, parts: &Parts) -> Result<Value, AllocError>
     Ok(Value::Object(object.into_map()))
 }
 
-impl Parts {
-    /// The same again.
-    pub fn copy(&self, alloc: Global) -> Result<Parts, AllocError>
-        ensures { IfOk result (λ m. m ≡ self.now) }
-    {
-        Ok(Parts {
-            keyslots: copy_entries(alloc, self.keyslots.as_slice())?,
-            tokens: copy_entries(alloc, self.tokens.as_slice())?,
-            segments: copy_entries(alloc, self.segments.as_slice())?,
-            digests: copy_entries(alloc, self.digests.as_slice())?,
-            config: self.config.copy(alloc)?,
-            rest: self.rest.copy(alloc)?,
-        })
-    }
-}
-
-impl Meta {
-    ghost use Rattle.luks_json.specs.Metas.{IsMeta};
-
-    /// The metadata of parts that have a text.
-    pub fn new(parts: Parts) -> Meta
-        requires { IsMeta parts }
-        ensures { result ≡ parts }
-    {
-        Meta { parts }
-    }
-
-    /// The parts.
-    pub fn parts(&self) -> &Parts
-        ensures same { result.now ≡ self.now }
-        ensures right { IsMeta self.now }
-    {
-        &self.parts
-    }
-
-    /// The parts, to be changed.
-    pub fn into_parts(self) -> Parts
-        ensures same { result ≡ self }
-        ensures right { IsMeta result }
-    {
-        let Meta { parts } = self;
-        parts
-    }
-
+/// Metadata as a text.
+pub trait JsonText: Drop {
     /// The metadata that a text is, of a copy of `hdr_size` bytes: binary header and JSON area. A
     /// fault is the first in this order: the text is no JSON; a number is not whole within 64 bits;
     /// a top member is missing; then those of the keyslots, tokens, segments, digests and the
     /// config, the bad keys of each first, and then its objects by rising number.
-    pub fn read(alloc: Global, text: &[u8], hdr_size: u64) -> Result<Meta, ReadError>
+    fn read(alloc: Global, text: &[u8], hdr_size: u64) -> Result<Self, ReadError>;
+
+    /// The text of the metadata: compact, with the keys of each object in byte order. In a copy of
+    /// the size that the config says it is read as these very metadata.
+    fn write(&self, alloc: Global) -> Result<Bytes, AllocError>;
+}
+
+impl JsonText for Meta {
+    fn read(alloc: Global, text: &[u8], hdr_size: u64) -> Result<Meta, ReadError>
         ensures { Gives (λ m. m) result (meta_from hdr_size text.now) }
     {
         match read_text(alloc, hdr_size, text) {
-            Ok(parts) => Ok(Meta { parts }),
+            Ok(parts) => Ok(Meta::new(parts)),
             Err(e) => Err(e),
         }
     }
 
-    /// The text of the metadata: compact, with the keys of each object in byte order. In a copy of
-    /// the size that the config says it is read as these very metadata.
-    pub fn write(&self, alloc: Global) -> Result<Bytes, AllocError>
+    fn write(&self, alloc: Global) -> Result<Bytes, AllocError>
         ensures text { IfOk result (λ text. text ≡ compact_text (data_of self.now)) }
         ensures back { IfOk result
             (λ text. meta_from (self.now.config.json_size + 4096) text ≡ Ok self.now) }
     {
-        let value = value_of(alloc, &self.parts)?;
+        let value = value_of(alloc, self.parts())?;
         Ok(Bytes::new(value.to_vec(alloc)?))
-    }
-
-    /// The same again.
-    pub fn copy(&self, alloc: Global) -> Result<Meta, AllocError>
-        ensures { IfOk result (λ m. m ≡ self.now) }
-    {
-        Ok(Meta {
-            parts: self.parts.copy(alloc)?,
-        })
     }
 }

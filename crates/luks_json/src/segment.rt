@@ -5,73 +5,28 @@ ghost use Rattle.serde_json.specs.Data.{string, put as with_member};
 ghost use Rattle.json_members.specs.declared.faults.JsonFaultKind.TheVariants.{Number, Unsupported};
 ghost use Rattle.json_members.specs.Fields.{Gives, meant_in, counted_in, absent};
 ghost use Rattle.json_members.specs.Members.{put_optional, without_all};
-ghost use Rattle.luks_json.specs.Names.{cipher_named};
+ghost use Rattle.luks_meta.specs.Names.{cipher_named};
 ghost use Rattle.luks_json.specs.Segments.{
   type_named,
   size_named,
   sector_size_of,
   encryption_in,
   encryption_by,
-  segment_names,
   segment_of,
   size_text,
   flags_data,
   put_encryption as with_encryption,
   segment_members,
 };
+ghost use Rattle.luks_meta.specs.Segments.{segment_names};
 
-use crate::names::Cipher;
+use crate::entries::EntryText;
 use json_members::{
-    Entry, JsonFaultKind, Listed, Object, ReadError, Text, copy_texts, decimal_at, decimal_number,
-    fault_at, number_at, optional_texts_at, put_decimal, put_number, put_text, put_texts, text_at,
+    JsonFaultKind, Listed, Object, ReadError, Text, decimal_at, decimal_number, fault_at,
+    number_at, optional_texts_at, put_decimal, put_number, put_text, put_texts, text_at,
 };
+use luks_meta::{Cipher, Encryption, Segment, SegmentSize};
 use std::alloc::{AllocError, Global};
-
-/// How long a segment is.
-#[derive(Clone, Copy, PartialEq, Eq)]
-pub enum SegmentSize {
-    /// `dynamic`: up to the disk's end.
-    Dynamic,
-    /// So many bytes.
-    Sized(u64),
-}
-
-/// How a crypt segment is encrypted.
-#[derive(Clone, Copy, PartialEq, Eq)]
-pub struct Encryption {
-    /// The number of the segment's first sector, in units of 512 bytes.
-    pub iv_tweak: u64,
-    pub cipher: Cipher,
-    /// 512, 1024, 2048 or 4096 bytes.
-    pub sector_size: u64,
-}
-
-/// A segment, in the order of its members in the format. One with an encryption has the type
-/// `crypt`, one without has the type `linear`.
-pub struct Segment {
-    /// Where it begins, in bytes.
-    pub offset: u64,
-    pub size: SegmentSize,
-    pub encryption: Option<Encryption>,
-    pub flags: Option<Listed<Text>>,
-    /// The members that have no name here, as they were read.
-    pub rest: Object,
-}
-
-// By hand, so that a value that is dropped in place is one call to the prover.
-impl Drop for Segment {
-    fn drop(self) {
-        let Segment {
-            offset: _,
-            size: _,
-            encryption: _,
-            flags,
-            rest,
-        } = self;
-        drop(flags);
-        drop(rest);
-    }
-}
 
 /// The type of a segment.
 #[derive(Clone, Copy, PartialEq, Eq)]
@@ -96,17 +51,16 @@ impl SegmentType {
     }
 }
 
-impl SegmentSize {
-    fn of_text(text: &str) -> Option<SegmentSize>
-        ensures { result ≡ size_named text.now }
-    {
-        if text == "dynamic" {
-            return Some(SegmentSize::Dynamic);
-        }
-        match decimal_number(text) {
-            Some(bytes) => Some(SegmentSize::Sized(bytes)),
-            None => None,
-        }
+// How long a segment is whose size is a text.
+fn size_of_text(text: &str) -> Option<SegmentSize>
+    ensures { result ≡ size_named text.now }
+{
+    if text == "dynamic" {
+        return Some(SegmentSize::Dynamic);
+    }
+    match decimal_number(text) {
+        Some(bytes) => Some(SegmentSize::Sized(bytes)),
+        None => None,
     }
 }
 
@@ -128,7 +82,7 @@ fn size_at(alloc: Global, path: &str, object: &Object) -> Result<SegmentSize, Re
         (meant_in Number size_named path.now (codes "size") object.now) }
 {
     let text = text_at(alloc, path, object, "size")?;
-    let Some(size) = SegmentSize::of_text(text) else {
+    let Some(size) = size_of_text(text) else {
         return Err(fault_at(alloc, JsonFaultKind::Number, path, "size"));
     };
     Ok(size)
@@ -295,7 +249,7 @@ fn write_segment(alloc: Global, segment: &Segment) -> Result<Object, AllocError>
     Ok(object)
 }
 
-impl Entry for Segment {
+impl EntryText for Segment {
     ghost use Rattle.luks_json.specs.Segments.{segment_of, segment_members};
 
     type Terms = ();
@@ -310,19 +264,5 @@ impl Entry for Segment {
 
     fn write(&self, alloc: Global) -> Result<Object, AllocError> {
         write_segment(alloc, self)
-    }
-
-    fn copy(&self, alloc: Global) -> Result<Segment, AllocError> {
-        let flags = match &self.flags {
-            Some(flags) => Some(copy_texts(alloc, flags.as_slice())?),
-            None => None,
-        };
-        Ok(Segment {
-            offset: self.offset,
-            size: self.size,
-            encryption: self.encryption,
-            flags,
-            rest: self.rest.copy(alloc)?,
-        })
     }
 }

@@ -1,15 +1,11 @@
 // Tokens, which are kept.
 
-use json_members::{Entry, Object, ReadError};
+use crate::entries::EntryText;
+use json_members::{Object, ReadError};
+use luks_meta::Token;
 use std::alloc::{AllocError, Global};
 
-/// A token: all of its members, as they were read.
-#[derive(Drop)]
-pub struct Token {
-    pub members: Object,
-}
-
-impl Entry for Token {
+impl EntryText for Token {
     ghost use Rattle.luks_json.specs.Tokens.{token_of, token_members};
 
     type Terms = ();
@@ -25,11 +21,5 @@ impl Entry for Token {
 
     fn write(&self, alloc: Global) -> Result<Object, AllocError> {
         self.members.copy(alloc)
-    }
-
-    fn copy(&self, alloc: Global) -> Result<Token, AllocError> {
-        Ok(Token {
-            members: self.members.copy(alloc)?,
-        })
     }
 }

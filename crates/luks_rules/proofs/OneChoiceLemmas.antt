@@ -4,11 +4,11 @@ use Rattle.std.proofs.Common.{[], ◌∷◌, length, Option, Some, None, Bool, t
 use Rattle.std.proofs.Common.{sym, ap, arith}
 use Rattle.std.proofs.lemmas.Bool.{and_parts, eqb-true, eq-eqb, not-true, both_ways}
 use Rattle.std.specs.Option.{is_some}
-use Rattle.luks_json.specs.declared.reencrypt.Direction.{Direction}
-use Rattle.luks_json.specs.declared.reencrypt.Direction.TheVariants.{Forward, Backward}
-use Rattle.luks_json.specs.declared.reencrypt.Mode.{Mode}
-use Rattle.luks_json.specs.declared.reencrypt.Mode.TheVariants.{Reencrypt, Encrypt, Decrypt}
-use Rattle.luks_json.specs.declared.segment.Encryption.{Encryption}
+use Rattle.luks_meta.specs.declared.reencrypt.Direction.{Direction}
+use Rattle.luks_meta.specs.declared.reencrypt.Direction.TheVariants.{Forward, Backward}
+use Rattle.luks_meta.specs.declared.reencrypt.Mode.{Mode}
+use Rattle.luks_meta.specs.declared.reencrypt.Mode.TheVariants.{Reencrypt, Encrypt, Decrypt}
+use Rattle.luks_meta.specs.declared.segment.Encryption.{Encryption}
 use Rattle.luks_rules.specs.Plans.{begins, is_encrypted, is_marked, is_part, is_sized, laid_out}
 use Rattle.luks_rules.specs.Plans.{parts_of, rest_of, same_digest}
 use Rattle.luks_rules.specs.Shapes.{are_wholes, fits_mode, fits_place, has_own_digest}

@@ -8,9 +8,9 @@ use Rattle.std.specs.List.{All, AllByRecursion, find, count_by}
 use Rattle.std.specs.Option.{IfSome, IsSome, option_map}
 use Rattle.base_terms.specs.declared.disk_sizes.Sizes.{Sizes}
 use Rattle.json_members.specs.Entries.{IsRising}
-use Rattle.luks_json.specs.declared.digest.Digest.{Digest}
-use Rattle.luks_json.specs.declared.meta.Parts.{Parts}
-use Rattle.luks_json.specs.declared.segment.Segment.{Segment}
+use Rattle.luks_meta.specs.declared.digest.Digest.{Digest}
+use Rattle.luks_meta.specs.declared.meta.Parts.{Parts}
+use Rattle.luks_meta.specs.declared.segment.Segment.{Segment}
 use Rattle.luks_rules.specs.Areas.{main_bytes}
 use Rattle.luks_rules.specs.Extents.{digest_of, extent_of}
 use Rattle.luks_rules.specs.Plain.{AreReferred, HaveNumbers, HaveWholeAtoms, HaveWholeSectors}

@@ -8,10 +8,10 @@ use Rattle.std.proofs.lemmas.List.Folds.{list_any_none, list_any_at}
 use Rattle.std.specs.List.{All, list_any, sum_by}
 use Rattle.std.specs.Option.{is_some, IsSome, IfSome}
 use Rattle.base_terms.specs.declared.disk_sizes.Sizes.{Sizes}
-use Rattle.luks_json.specs.declared.meta.Parts.{Parts}
-use Rattle.luks_json.specs.declared.segment.Encryption.{Encryption}
-use Rattle.luks_json.specs.declared.segment.SegmentSize.{SegmentSize}
-use Rattle.luks_json.specs.declared.segment.SegmentSize.TheVariants.{Dynamic, Sized}
+use Rattle.luks_meta.specs.declared.meta.Parts.{Parts}
+use Rattle.luks_meta.specs.declared.segment.Encryption.{Encryption}
+use Rattle.luks_meta.specs.declared.segment.SegmentSize.{SegmentSize}
+use Rattle.luks_meta.specs.declared.segment.SegmentSize.TheVariants.{Dynamic, Sized}
 use Rattle.luks_rules.specs.Areas.{areas_of, areas_begin, areas_end, end_of, header_bytes}
 use Rattle.luks_rules.specs.Areas.{main_bytes, is_outside, passes_limit, breaks_bounds}
 use Rattle.luks_rules.specs.References.{breaks_references, is_badly_listed, is_there, lists_unknown}

@@ -1,7 +1,7 @@
 -- The first of some rules' faults, and then of further ones.
 use Rattle.std.proofs.Common.{◌≡◌, ◌∙◌, List, [], ◌∷◌, ◌++◌, Option, Some, None, refl, sym, ap}
 use Rattle.base_terms.specs.declared.disk_sizes.Sizes.{Sizes}
-use Rattle.luks_json.specs.declared.meta.Parts.{Parts}
+use Rattle.luks_meta.specs.declared.meta.Parts.{Parts}
 use Rattle.luks_rules.specs.Rules.{first_or, first_of, first_fault, rules_of_places, rules_of_sizes}
 use Rattle.luks_rules.specs.Rules.{rules_of_conversion}
 use Rattle.luks_rules.specs.declared.fault.RuleFault.{RuleFault}

@@ -2,10 +2,10 @@
 use Rattle.std.proofs.Common.{◌≡◌, ◌+◌, ◌<◌, ℕ, not, eqb, Some, false, refl, sym, arith}
 use Rattle.std.proofs.lemmas.Bool.{eqb-true, eq-eqb, ne_eqb, not-false, not_from_true, or_from}
 use Rattle.std.proofs.lemmas.Bool.{or_parts}
-use Rattle.luks_json.specs.declared.reencrypt.Direction.{Direction}
-use Rattle.luks_json.specs.declared.reencrypt.Direction.TheVariants.{Forward, Backward}
-use Rattle.luks_json.specs.declared.reencrypt.Resilience.{Resilience}
-use Rattle.luks_json.specs.declared.reencrypt.Resilience.TheVariants.{Journal, Checksum, Datashift}
+use Rattle.luks_meta.specs.declared.reencrypt.Direction.{Direction}
+use Rattle.luks_meta.specs.declared.reencrypt.Direction.TheVariants.{Forward, Backward}
+use Rattle.luks_meta.specs.declared.reencrypt.Resilience.{Resilience}
+use Rattle.luks_meta.specs.declared.reencrypt.Resilience.TheVariants.{Journal, Checksum, Datashift}
 use Rattle.luks_rules.specs.Rooms.{breaks_shift, is_shifted, lacks_shift, HasShift, IsBetween}
 use Rattle.luks_rules.specs.declared.shape.Progress.{Progress}
 

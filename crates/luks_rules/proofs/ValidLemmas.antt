@@ -6,8 +6,8 @@ use Rattle.std.proofs.lemmas.List.Folds.{list_any_none}
 use Rattle.std.specs.List.{All, find}
 use Rattle.std.specs.Option.{is_some, option_map}
 use Rattle.base_terms.specs.declared.disk_sizes.Sizes.{Sizes}
-use Rattle.luks_json.specs.Configs.{is_foreign, mandatory}
-use Rattle.luks_json.specs.declared.meta.Parts.{Parts}
+use Rattle.luks_meta.specs.Configs.{is_foreign, mandatory}
+use Rattle.luks_meta.specs.declared.meta.Parts.{Parts}
 use Rattle.luks_rules.specs.Areas.{areas_of, breaks_bounds}
 use Rattle.luks_rules.specs.Conversions.{conversions_of}
 use Rattle.luks_rules.specs.Foreign.{first_foreign}

@@ -1,9 +1,9 @@
 -- The keyslots that say how a conversion goes on.
 use Rattle.std.specs.Prelude.{ℕ, List, [], ◌∷◌, Option, Some, None}
 use Rattle.std.specs.List.{filter_map}
-use Rattle.luks_json.specs.declared.keyslot.Keyslot.{Keyslot}
-use Rattle.luks_json.specs.declared.keyslot.Keyslot.TheVariants as keyslots
-use Rattle.luks_json.specs.declared.reencrypt.Reencrypt.{Reencrypt}
+use Rattle.luks_meta.specs.declared.keyslot.Keyslot.{Keyslot}
+use Rattle.luks_meta.specs.declared.keyslot.Keyslot.TheVariants as keyslots
+use Rattle.luks_meta.specs.declared.reencrypt.Reencrypt.{Reencrypt}
 use Rattle.luks_rules.specs.declared.conversions.Conversion.{Conversion}
 
 abbrev pub conversion_by : ℕ → Reencrypt → Conversion

@@ -3,10 +3,10 @@ use Rattle.std.specs.Prelude.{◌≡◌, ℕ, ◌+◌, ◌-◌, ◌/◌, ◌%◌
 use Rattle.std.specs.Prelude.{IfSome, IsSome}
 use Rattle.std.specs.List.{All, sum_by}
 use Rattle.base_terms.specs.declared.disk_sizes.Sizes.{Sizes}
-use Rattle.luks_json.specs.declared.config.Config.{Config}
-use Rattle.luks_json.specs.declared.meta.Parts.{Parts}
-use Rattle.luks_json.specs.declared.segment.SegmentSize.{SegmentSize}
-use Rattle.luks_json.specs.declared.segment.SegmentSize.TheVariants.{Dynamic, Sized}
+use Rattle.luks_meta.specs.declared.config.Config.{Config}
+use Rattle.luks_meta.specs.declared.meta.Parts.{Parts}
+use Rattle.luks_meta.specs.declared.segment.SegmentSize.{SegmentSize}
+use Rattle.luks_meta.specs.declared.segment.SegmentSize.TheVariants.{Dynamic, Sized}
 use Rattle.luks_rules.specs.Areas.{areas_begin, areas_end, areas_of, end_of, header_bytes}
 use Rattle.luks_rules.specs.Areas.{main_bytes}
 use Rattle.luks_rules.specs.References.{is_there, times_listed}

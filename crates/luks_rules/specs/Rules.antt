@@ -2,8 +2,8 @@
 use Rattle.std.specs.Prelude.{◌≡◌, ◌<◌, ◌++◌, Bool, true, false, List, [], ◌∷◌, Option, Some, None}
 use Rattle.std.specs.Prelude.{option_map}
 use Rattle.base_terms.specs.declared.disk_sizes.Sizes.{Sizes}
-use Rattle.luks_json.specs.declared.meta.Parts.{Parts}
-use Rattle.luks_json.specs.Configs.{mandatory}
+use Rattle.luks_meta.specs.declared.meta.Parts.{Parts}
+use Rattle.luks_meta.specs.Configs.{mandatory}
 use Rattle.luks_rules.specs.declared.fault.CheckError.{CheckError}
 use Rattle.luks_rules.specs.declared.fault.CheckError.TheVariants as errors
 use Rattle.luks_rules.specs.declared.fault.RuleFault.{RuleFault}

@@ -4,7 +4,7 @@ ghost use Rattle.luks_rules.specs.Areas.{area_of, areas_of, end_of, areas_begin,
 ghost use Rattle.luks_rules.specs.Areas.{is_outside, passes_limit, breaks_bounds};
 
 use base_terms::Sizes;
-use luks_json::{Config, Keyslot, Parts, Segment};
+use luks_meta::{Config, Keyslot, Parts, Segment};
 use std::alloc::{AllocError, Global};
 
 /// A run of bytes of the header's disk that a keyslot holds.

@@ -2,7 +2,7 @@ ghost use Rattle.std.specs.Prelude.{◌≡◌, IfOk};
 ghost use Rattle.luks_rules.specs.Conversions.{conversion_of, conversions_of, only};
 
 use crate::areas::Area;
-use luks_json::{Direction, Keyslot, Mode, Resilience};
+use luks_meta::{Direction, Keyslot, Mode, Resilience};
 use std::alloc::{AllocError, Global};
 
 /// How a conversion goes on: what its keyslot says.

@@ -4,7 +4,7 @@ ghost use Rattle.luks_rules.specs.Extents.{mark_of};
 
 use crate::references::lists_number;
 use json_members::{Listed, Text};
-use luks_json::{Digest, Encryption, Segment, SegmentSize};
+use luks_meta::{Digest, Encryption, Segment, SegmentSize};
 
 /// What the flags of a segment say.
 #[derive(Clone, Copy, PartialEq, Eq)]

@@ -1,9 +1,9 @@
 ghost use Rattle.std.specs.Prelude.{◌≡◌, IfOk, option_map};
-ghost use Rattle.luks_json.specs.Configs.{mandatory};
+ghost use Rattle.luks_meta.specs.Configs.{mandatory};
 ghost use Rattle.luks_rules.specs.Foreign.{first_foreign};
 
 use json_members::Text;
-use luks_json::{Config, PROFILE};
+use luks_meta::{Config, PROFILE};
 use std::alloc::{AllocError, Global};
 
 /// The first of the texts that isn't the profile's.

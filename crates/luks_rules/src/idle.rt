@@ -4,7 +4,7 @@ ghost use Rattle.luks_rules.specs.Idles.{idle_from, idle_of};
 use crate::extents::{Extent, make_extent};
 use crate::segments::{is_in_progress, segment_blocks};
 use base_terms::Sizes;
-use luks_json::{Digest, Parts, Segment};
+use luks_meta::{Digest, Parts, Segment};
 
 /// A volume of which nothing is being converted.
 #[derive(Clone, Copy, PartialEq, Eq)]

@@ -3,7 +3,7 @@
 ghost use Rattle.std.specs.Prelude.{◌≡◌, ◌↔◌, ◌<◌, ℕ, Bool, false, true, List, length, is_some};
 ghost use Rattle.std.specs.Prelude.{Some, None};
 ghost use Rattle.base_terms.specs.declared.disk_sizes.Sizes.{Sizes as sizes_type};
-ghost use Rattle.luks_json.specs.declared.meta.Parts.{Parts as parts_type};
+ghost use Rattle.luks_meta.specs.declared.meta.Parts.{Parts as parts_type};
 ghost use Rattle.luks_rules.specs.Areas.{breaks_bounds};
 ghost use Rattle.luks_rules.specs.Multiples.{breaks_multiples, breaks_sectors, breaks_tweaks};
 ghost use Rattle.luks_rules.specs.Plain.{AreReferred, HaveNumbers, HaveWholeAtoms};

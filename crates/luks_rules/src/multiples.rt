@@ -9,7 +9,7 @@ ghost use Rattle.luks_rules.specs.Segments.{bytes_of};
 use crate::areas::Area;
 use crate::segments::segment_bytes;
 use base_terms::Sizes;
-use luks_json::{Encryption, Parts, Segment, SegmentSize};
+use luks_meta::{Encryption, Parts, Segment, SegmentSize};
 
 /// Whether sectors of this encryption don't divide the atom.
 fn sectors_cut_atom(encryption: &Option<Encryption>, atom: u32) -> bool

@@ -5,7 +5,7 @@ ghost use Rattle.luks_rules.specs.Plans.{is_sized, laid_out, parts_of, rest_of, 
 ghost use Rattle.luks_rules.specs.Plans.{same_digest};
 
 use crate::extents::{Extent, Mark};
-use luks_json::{Cipher, Direction, Encryption, SegmentSize};
+use luks_meta::{Cipher, Direction, Encryption, SegmentSize};
 
 /// Of how many blocks each part of a volume is while it is converted, in logical order.
 #[derive(Clone, Copy, PartialEq, Eq)]

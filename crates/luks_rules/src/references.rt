@@ -7,7 +7,7 @@ ghost use Rattle.std.specs.BTreeSet as set;
 ghost use Rattle.luks_rules.specs.References.{breaks_references, is_badly_listed, is_there, lists};
 ghost use Rattle.luks_rules.specs.References.{lists_beyond, lists_unknown, times_listed};
 
-use luks_json::{Digest, Parts, Segment};
+use luks_meta::{Digest, Parts, Segment};
 use std::alloc::{AllocError, Global};
 use std::collections::{BTreeMap, BTreeSet};
 

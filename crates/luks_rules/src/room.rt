@@ -3,7 +3,7 @@ ghost use Rattle.luks_rules.specs.Rooms.{breaks_capacity, breaks_shift, capacity
 ghost use Rattle.luks_rules.specs.Rooms.{lacks_shift};
 
 use crate::shape::Progress;
-use luks_json::{Direction, Resilience};
+use luks_meta::{Direction, Resilience};
 
 impl Progress {
     /// How many blocks a zone may have, where a disk has atoms of so many bytes.

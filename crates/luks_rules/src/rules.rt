@@ -16,7 +16,7 @@ use crate::room::{has_no_capacity, has_no_shift};
 use crate::segments::hold_no_volume;
 use crate::shape::{Progress, find_progress, has_no_shape};
 use base_terms::Sizes;
-use luks_json::Parts;
+use luks_meta::Parts;
 use std::alloc::{AllocError, Global};
 
 /// Whose header it is, its areas, and what digests list: the first rule that is broken.

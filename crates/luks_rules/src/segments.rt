@@ -1,7 +1,7 @@
 ghost use Rattle.std.specs.Prelude.{◌≡◌, ◌<◌, ◌-◌, ◌*◌, ◌/◌, ◌^◌, ◌&&◌, not, nat_lt};
 ghost use Rattle.std.specs.List.{list_any, sum_by};
 ghost use Rattle.std.specs.Str.{bytes_eq};
-ghost use Rattle.luks_json.specs.Configs.{profile};
+ghost use Rattle.luks_meta.specs.Configs.{profile};
 ghost use Rattle.luks_rules.specs.Areas.{main_bytes};
 ghost use Rattle.luks_rules.specs.Segments.{breaks_count, breaks_segments, bytes_of, flag_in};
 ghost use Rattle.luks_rules.specs.Segments.{goes_to_end, holds_none, in_progress, is_backup, is_dynamic};
@@ -9,7 +9,7 @@ ghost use Rattle.luks_rules.specs.Segments.{is_live, live_bytes, passes_end, who
 
 use base_terms::Sizes;
 use json_members::{Listed, Text};
-use luks_json::{Config, PROFILE, Parts, Segment, SegmentSize};
+use luks_meta::{Config, PROFILE, Parts, Segment, SegmentSize};
 
 /// The bytes of the smallest sector that a segment may have.
 pub(crate) const SMALLEST_SECTOR: u64 = 512;

@@ -14,7 +14,7 @@ use crate::plan::{Plan, are_laid_out, blocks_of_volume, has_size, parts};
 use crate::references::lists_number;
 use crate::segments::{is_dynamic_size, is_in_progress};
 use base_terms::Sizes;
-use luks_json::{Digest, Encryption, Mode, Parts, Resilience, Segment, SegmentSize};
+use luks_meta::{Digest, Encryption, Mode, Parts, Resilience, Segment, SegmentSize};
 
 /// How far a conversion is.
 #[derive(Clone, Copy, PartialEq, Eq)]

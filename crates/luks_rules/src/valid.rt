@@ -1,5 +1,5 @@
 ghost use Rattle.std.specs.Prelude.{◌≡◌, ◌<◌, MatchResult, None, IfSome, option_map};
-ghost use Rattle.luks_json.specs.Digests.{IsDigest};
+ghost use Rattle.luks_meta.specs.Digests.{IsDigest};
 ghost use Rattle.luks_rules.specs.Idles.{idle_of};
 ghost use Rattle.luks_rules.specs.References.{value_at};
 ghost use Rattle.luks_rules.specs.Rules.{IsCause, first_fault};
@@ -12,7 +12,7 @@ use crate::rules::judge;
 use crate::segments::{SMALLEST_SECTOR, any_goes_to_end};
 use crate::shape::Progress;
 use base_terms::Sizes;
-use luks_json::{Digest, Meta};
+use luks_meta::{Digest, Meta};
 use std::alloc::Global;
 use std::marker::Model;
 

@@ -14,7 +14,7 @@ use Rattle.std.proofs.lemmas.Nat.{div-add-mod'}
 use Rattle.std.specs.Int.{div_ceil}
 use Rattle.std.specs.List.{All, filter}
 use Rattle.std.specs.List.Sorted.{IsNonDecreasingBy}
-use Rattle.luks_json.specs.declared.meta.Parts.{Parts}
+use Rattle.luks_meta.specs.declared.meta.Parts.{Parts}
 use Rattle.luks_rules.specs.Areas.{areas_begin, end_of}
 use Rattle.luks_rules.specs.Overlaps.{has_bytes, IsInOrder}
 use Rattle.luks_rules.specs.declared.areas.Area.{Area}

@@ -9,11 +9,11 @@ use Rattle.std.proofs.lemmas.List.{take-take}
 use Rattle.std.specs.Int.{div_ceil}
 use Rattle.std.specs.List.{slice_index}
 use Rattle.af_split.specs.Af.{merged}
-use Rattle.luks_json.specs.Keyslots.{IsLuks2}
-use Rattle.luks_json.specs.Names.{is_iterations}
-use Rattle.luks_json.specs.declared.digest.Digest.{Digest}
-use Rattle.luks_json.specs.declared.keyslot.Luks2.{Luks2}
-use Rattle.luks_json.specs.declared.meta.Parts.{Parts}
+use Rattle.luks_meta.specs.Keyslots.{IsLuks2}
+use Rattle.luks_meta.specs.Names.{is_iterations}
+use Rattle.luks_meta.specs.declared.digest.Digest.{Digest}
+use Rattle.luks_meta.specs.declared.keyslot.Luks2.{Luks2}
+use Rattle.luks_meta.specs.declared.meta.Parts.{Parts}
 use Rattle.luks_slots.proofs.AreaLemmas.{some-atom}
 use Rattle.luks_slots.proofs.GapLemmas.{least-rounded, not-before, whole-rounded}
 use Rattle.luks_slots.specs.Functions.{functions_of}

@@ -7,17 +7,17 @@ use Rattle.std.proofs.lemmas.List.Elements.{All-contains, All-contains_itself, A
 use Rattle.std.proofs.lemmas.List.Elements.{All-tail, All-weaker}
 use Rattle.std.specs.List.{All, Contains}
 use Rattle.base_terms.specs.declared.disk_sizes.Sizes.{Sizes}
-use Rattle.luks_json.specs.declared.config.Config.{Config}
-use Rattle.luks_json.specs.declared.digest.Digest.{Digest}
-use Rattle.luks_json.specs.declared.keyslot.Derivation.{Derivation}
-use Rattle.luks_json.specs.declared.keyslot.Derivation.TheVariants as derivations
-use Rattle.luks_json.specs.declared.keyslot.Keyslot.{Keyslot}
-use Rattle.luks_json.specs.declared.keyslot.Keyslot.TheVariants as keyslots
-use Rattle.luks_json.specs.declared.keyslot.Luks2.{Luks2}
-use Rattle.luks_json.specs.declared.keyslot.Pbkdf2.{Pbkdf2}
-use Rattle.luks_json.specs.declared.keyslot.Priority.{Priority as Rank}
-use Rattle.luks_json.specs.declared.keyslot.Priority.TheVariants.{Normal, High}
-use Rattle.luks_json.specs.declared.meta.Parts.{Parts}
+use Rattle.luks_meta.specs.declared.config.Config.{Config}
+use Rattle.luks_meta.specs.declared.digest.Digest.{Digest}
+use Rattle.luks_meta.specs.declared.keyslot.Derivation.{Derivation}
+use Rattle.luks_meta.specs.declared.keyslot.Derivation.TheVariants as derivations
+use Rattle.luks_meta.specs.declared.keyslot.Keyslot.{Keyslot}
+use Rattle.luks_meta.specs.declared.keyslot.Keyslot.TheVariants as keyslots
+use Rattle.luks_meta.specs.declared.keyslot.Luks2.{Luks2}
+use Rattle.luks_meta.specs.declared.keyslot.Pbkdf2.{Pbkdf2}
+use Rattle.luks_meta.specs.declared.keyslot.Priority.{Priority as Rank}
+use Rattle.luks_meta.specs.declared.keyslot.Priority.TheVariants.{Normal, High}
+use Rattle.luks_meta.specs.declared.meta.Parts.{Parts}
 use Rattle.luks_rules.specs.Areas.{area_of, areas_begin, areas_of}
 use Rattle.luks_rules.specs.Plain.{IsWithin}
 use Rattle.luks_rules.specs.References.{lists}

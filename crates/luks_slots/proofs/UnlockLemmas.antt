@@ -1,8 +1,8 @@
 -- What an answer says of the key of a passphrase.
 use Rattle.std.proofs.Common.{◌≡◌, ℕ, List, Option, Some, None, ◌∙◌, ap}
-use Rattle.luks_json.specs.declared.digest.Digest.{Digest}
-use Rattle.luks_json.specs.declared.keyslot.Priority.TheVariants.{Normal, High}
-use Rattle.luks_json.specs.declared.meta.Parts.{Parts}
+use Rattle.luks_meta.specs.declared.digest.Digest.{Digest}
+use Rattle.luks_meta.specs.declared.keyslot.Priority.TheVariants.{Normal, High}
+use Rattle.luks_meta.specs.declared.meta.Parts.{Parts}
 use Rattle.luks_slots.specs.Unlocks.{first_key, key_of, or_else}
 
 pub key-high : (m : Parts) (d : Digest) (image pass key : List ℕ)

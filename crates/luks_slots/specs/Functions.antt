@@ -1,12 +1,12 @@
 -- The functions that a keyslot names, of those that are known here.
 use Rattle.std.specs.Prelude.{ℕ, List, Bool, ◌==◌, ◌||◌, Option, Some, None, option_map}
-use Rattle.luks_json.specs.Names.{cipher_named, hash_named}
-use Rattle.luks_json.specs.declared.keyslot.Luks2.{Luks2}
-use Rattle.luks_json.specs.declared.keyslot.Pbkdf2.{Pbkdf2}
-use Rattle.luks_json.specs.declared.names.Cipher.{Cipher}
-use Rattle.luks_json.specs.declared.names.Cipher.TheVariants as ciphers
-use Rattle.luks_json.specs.declared.names.Hash.{Hash as NamedHash}
-use Rattle.luks_json.specs.declared.names.Hash.TheVariants as hashes
+use Rattle.luks_meta.specs.Names.{cipher_named, hash_named}
+use Rattle.luks_meta.specs.declared.keyslot.Luks2.{Luks2}
+use Rattle.luks_meta.specs.declared.keyslot.Pbkdf2.{Pbkdf2}
+use Rattle.luks_meta.specs.declared.names.Cipher.{Cipher}
+use Rattle.luks_meta.specs.declared.names.Cipher.TheVariants as ciphers
+use Rattle.luks_meta.specs.declared.names.Hash.{Hash as NamedHash}
+use Rattle.luks_meta.specs.declared.names.Hash.TheVariants as hashes
 use Rattle.luks_slots.specs.declared.functions.Functions.{Functions}
 use Rattle.pbkdf2_hmac.specs.declared.Hash.{Hash}
 use Rattle.pbkdf2_hmac.specs.declared.Hash.TheVariants.{Sha256, Sha512}

@@ -2,8 +2,8 @@
 use Rattle.std.specs.Prelude.{ℕ, ◌≡◌, ◌+◌, ◌-◌, ◌<◌, ◌≤◌, ◌%◌, ◌^◌, ◌⊎◌, nat_le, min, max, List, []}
 use Rattle.std.specs.Prelude.{◌∷◌, ◌++◌, Option, Some, None, if◌then◌else◌}
 use Rattle.std.specs.List.{All}
-use Rattle.luks_json.specs.declared.config.Config.{Config}
-use Rattle.luks_json.specs.declared.meta.Parts.{Parts}
+use Rattle.luks_meta.specs.declared.config.Config.{Config}
+use Rattle.luks_meta.specs.declared.meta.Parts.{Parts}
 use Rattle.luks_rules.specs.Areas.{areas_begin, areas_end, areas_of, end_of}
 use Rattle.luks_rules.specs.declared.areas.Area.{Area}
 use Rattle.luks_slots.specs.Stripes.{rounded}

@@ -1,8 +1,8 @@
 -- What follows for the key of a passphrase.
 use Rattle.std.specs.Prelude.{ℕ, ◌≡◌, List, take, drop}
 use Rattle.base_terms.specs.declared.disk_sizes.Sizes.{Sizes}
-use Rattle.luks_json.specs.declared.digest.Digest.{Digest}
-use Rattle.luks_json.specs.declared.meta.Parts.{Parts}
+use Rattle.luks_meta.specs.declared.digest.Digest.{Digest}
+use Rattle.luks_meta.specs.declared.meta.Parts.{Parts}
 use Rattle.luks_rules.specs.Areas.{areas_begin}
 use Rattle.luks_rules.specs.States.{IsSound}
 use Rattle.luks_slots.specs.Unlocks.{key_of}

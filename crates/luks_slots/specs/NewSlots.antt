@@ -4,11 +4,11 @@ use Rattle.std.specs.Prelude.{ℕ, ◌≡◌, ◌-◌, ◌+◌, ◌*◌, ◌%◌
 use Rattle.std.specs.Prelude.{drop}
 use Rattle.std.specs.Prelude.{[], replicate, None, Some, true}
 use Rattle.af_split.specs.Af.{split_of}
-use Rattle.luks_json.specs.Keyslots.{IsLuks2}
-use Rattle.luks_json.specs.declared.digest.Digest.{Digest}
-use Rattle.luks_json.specs.declared.keyslot.Derivation.TheVariants as derivations
-use Rattle.luks_json.specs.declared.keyslot.Luks2.{Luks2}
-use Rattle.luks_json.specs.declared.meta.Parts.{Parts}
+use Rattle.luks_meta.specs.Keyslots.{IsLuks2}
+use Rattle.luks_meta.specs.declared.digest.Digest.{Digest}
+use Rattle.luks_meta.specs.declared.keyslot.Derivation.TheVariants as derivations
+use Rattle.luks_meta.specs.declared.keyslot.Luks2.{Luks2}
+use Rattle.luks_meta.specs.declared.meta.Parts.{Parts}
 use Rattle.luks_slots.specs.Gaps.{IsGapFault, IsLowest}
 use Rattle.luks_slots.specs.Slots.{fits}
 use Rattle.luks_slots.specs.Stripes.{rounded, split_len}

@@ -2,17 +2,17 @@
 use Rattle.std.specs.Prelude.{ℕ, ◌≡◌, ◌+◌, ◌*◌, ◌%◌, ◌≤◌, ◌==◌, ◌&&◌, ◌||◌, not, nat_le, Bool, true}
 use Rattle.std.specs.Prelude.{false, Option, Some, None, is_none, if◌then◌else◌}
 use Rattle.std.specs.List.{list_all}
-use Rattle.luks_json.specs.declared.digest.Digest.{Digest}
-use Rattle.luks_json.specs.declared.keyslot.Derivation.{Derivation}
-use Rattle.luks_json.specs.declared.keyslot.Derivation.TheVariants as derivations
-use Rattle.luks_json.specs.declared.keyslot.Keyslot.{Keyslot}
-use Rattle.luks_json.specs.declared.keyslot.Keyslot.TheVariants as keyslots
-use Rattle.luks_json.specs.declared.keyslot.Luks2.{Luks2}
-use Rattle.luks_json.specs.declared.keyslot.Priority.{Priority as Rank}
-use Rattle.luks_json.specs.declared.keyslot.Priority.TheVariants.{Ignore, Normal, High}
-use Rattle.luks_json.specs.declared.meta.Parts.{Parts}
-use Rattle.luks_json.specs.declared.segment.Encryption.{Encryption}
-use Rattle.luks_json.specs.Names.{is_iterations}
+use Rattle.luks_meta.specs.declared.digest.Digest.{Digest}
+use Rattle.luks_meta.specs.declared.keyslot.Derivation.{Derivation}
+use Rattle.luks_meta.specs.declared.keyslot.Derivation.TheVariants as derivations
+use Rattle.luks_meta.specs.declared.keyslot.Keyslot.{Keyslot}
+use Rattle.luks_meta.specs.declared.keyslot.Keyslot.TheVariants as keyslots
+use Rattle.luks_meta.specs.declared.keyslot.Luks2.{Luks2}
+use Rattle.luks_meta.specs.declared.keyslot.Priority.{Priority as Rank}
+use Rattle.luks_meta.specs.declared.keyslot.Priority.TheVariants.{Ignore, Normal, High}
+use Rattle.luks_meta.specs.declared.meta.Parts.{Parts}
+use Rattle.luks_meta.specs.declared.segment.Encryption.{Encryption}
+use Rattle.luks_meta.specs.Names.{is_iterations}
 use Rattle.luks_rules.specs.References.{lists}
 use Rattle.luks_slots.specs.Functions.{functions_of, has_key_length, named_cipher}
 use Rattle.luks_slots.specs.Kinds.{kind_by}

@@ -2,8 +2,8 @@
 use Rattle.std.specs.Prelude.{ℕ, ◌*◌, List, take, drop}
 use Rattle.std.specs.Int.{div_ceil}
 use Rattle.af_split.specs.Af.{merged}
-use Rattle.luks_json.specs.declared.keyslot.Luks2.{Luks2}
-use Rattle.luks_json.specs.declared.keyslot.Pbkdf2.{Pbkdf2}
+use Rattle.luks_meta.specs.declared.keyslot.Luks2.{Luks2}
+use Rattle.luks_meta.specs.declared.keyslot.Pbkdf2.{Pbkdf2}
 use Rattle.luks_slots.specs.declared.functions.Functions.{Functions}
 use Rattle.pbkdf2_hmac.specs.Pbkdf2.{derived_key}
 use Rattle.sector_cipher.specs.Context.{opened_under}

@@ -5,15 +5,15 @@ use Rattle.std.specs.List.{filter_map}
 use Rattle.std.specs.Result.{result_ok}
 use Rattle.std.specs.Str.{bytes_eq}
 use Rattle.base_terms.specs.Causes.{Rose}
-use Rattle.luks_json.specs.declared.digest.Digest.{Digest}
-use Rattle.luks_json.specs.declared.keyslot.Derivation.{Derivation}
-use Rattle.luks_json.specs.declared.keyslot.Derivation.TheVariants as derivations
-use Rattle.luks_json.specs.declared.keyslot.Keyslot.{Keyslot}
-use Rattle.luks_json.specs.declared.keyslot.Keyslot.TheVariants as keyslots
-use Rattle.luks_json.specs.declared.keyslot.Luks2.{Luks2}
-use Rattle.luks_json.specs.declared.keyslot.Priority.{Priority as Rank}
-use Rattle.luks_json.specs.declared.keyslot.Priority.TheVariants.{Normal, High}
-use Rattle.luks_json.specs.declared.meta.Parts.{Parts}
+use Rattle.luks_meta.specs.declared.digest.Digest.{Digest}
+use Rattle.luks_meta.specs.declared.keyslot.Derivation.{Derivation}
+use Rattle.luks_meta.specs.declared.keyslot.Derivation.TheVariants as derivations
+use Rattle.luks_meta.specs.declared.keyslot.Keyslot.{Keyslot}
+use Rattle.luks_meta.specs.declared.keyslot.Keyslot.TheVariants as keyslots
+use Rattle.luks_meta.specs.declared.keyslot.Luks2.{Luks2}
+use Rattle.luks_meta.specs.declared.keyslot.Priority.{Priority as Rank}
+use Rattle.luks_meta.specs.declared.keyslot.Priority.TheVariants.{Normal, High}
+use Rattle.luks_meta.specs.declared.meta.Parts.{Parts}
 use Rattle.luks_rules.specs.References.{lists}
 use Rattle.luks_slots.specs.Functions.{named_hash}
 use Rattle.luks_slots.specs.Slots.{fits, functions_for, is_ranked, refusal_of}

@@ -4,7 +4,7 @@ ghost use Rattle.std.specs.Prelude.{◌≡◌};
 ghost use Rattle.luks_slots.specs.Functions.{cipher_in, functions_of, hash_in, named_cipher};
 ghost use Rattle.luks_slots.specs.Functions.{named_hash};
 
-use luks_json::{Cipher, Luks2, Pbkdf2};
+use luks_meta::{Cipher, Luks2, Pbkdf2};
 use pbkdf2_hmac::Hash;
 use sector_cipher::Spec;
 
@@ -20,12 +20,12 @@ pub struct Functions {
 }
 
 /// The function of a hash that a header names.
-pub(crate) fn hash_function(hash: luks_json::Hash) -> Hash
+pub(crate) fn hash_function(hash: luks_meta::Hash) -> Hash
     ensures { result ≡ named_hash hash }
 {
     match hash {
-        luks_json::Hash::Sha256 => Hash::Sha256,
-        luks_json::Hash::Sha512 => Hash::Sha512,
+        luks_meta::Hash::Sha256 => Hash::Sha256,
+        luks_meta::Hash::Sha512 => Hash::Sha512,
     }
 }
 
@@ -42,7 +42,7 @@ pub fn cipher_spec(cipher: Cipher) -> Spec
 fn hash_named(name: &str) -> Option<Hash>
     ensures { result ≡ hash_in name.now }
 {
-    match luks_json::Hash::of_name(name) {
+    match luks_meta::Hash::of_name(name) {
         Some(hash) => Some(hash_function(hash)),
         None => None,
     }

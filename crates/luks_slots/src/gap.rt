@@ -7,7 +7,7 @@ ghost use Rattle.luks_slots.specs.Gaps.{IsGapFault, IsLowest};
 ghost use Rattle.luks_slots.specs.Stripes.{rounded};
 
 use crate::fault::SlotFault;
-use luks_json::{Config, Parts};
+use luks_meta::{Config, Parts};
 use luks_rules::{Area, Valid, list_areas};
 use std::alloc::{AllocError, Global};
 

@@ -1,12 +1,12 @@
 // The digest of a key, by which it is told (LUKS2 On-Disk Format 1.1, section 3.5).
 
 ghost use Rattle.std.specs.Prelude.{◌≡◌, ◌≤◌, true, length};
-ghost use Rattle.luks_json.specs.Names.{is_iterations};
+ghost use Rattle.luks_meta.specs.Names.{is_iterations};
 ghost use Rattle.luks_slots.specs.Unlocks.{digest_of, matches};
 
 use crate::functions::hash_function;
 use crate::key::Key;
-use luks_json::Digest;
+use luks_meta::Digest;
 use pbkdf2_hmac::derive;
 
 /// The fewest bytes of a digest that tells a key.

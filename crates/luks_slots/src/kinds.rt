@@ -3,7 +3,7 @@
 ghost use Rattle.std.specs.Prelude.{◌≡◌, IfOk};
 ghost use Rattle.luks_slots.specs.Kinds.{held_by, holders, kind_by, kind_named, kind_of};
 
-use luks_json::{Derivation, Digest, Keyslot, Parts};
+use luks_meta::{Derivation, Digest, Keyslot, Parts};
 use luks_rules::lists_number;
 use std::alloc::{AllocError, Global};
 

@@ -3,7 +3,7 @@
 ghost use Rattle.std.specs.Prelude.{◌≡◌, ◌++◌, ◌*◌, ◌%◌, ◌≤◌, length, take, drop, IfOk};
 ghost use Rattle.std.specs.Prelude.{MatchResult};
 ghost use Rattle.af_split.specs.Af.{merged, split_of};
-ghost use Rattle.luks_json.specs.Keyslots.{IsLuks2};
+ghost use Rattle.luks_meta.specs.Keyslots.{IsLuks2};
 ghost use Rattle.luks_slots.specs.NewSlots.{area_bytes, area_key_of, area_len, drawn_len, salt_len};
 ghost use Rattle.luks_slots.specs.NewSlots.{IsAdded, IsAddFault, IsSlotAt, slot_for};
 ghost use Rattle.luks_slots.specs.Stripes.{rounded, sectors_len, split_len};
@@ -22,7 +22,7 @@ use af_split::split;
 use base_terms::{Bytes, bytes_are_below_256, zeros};
 use cipher_laws::SectorCipher;
 use json_members::{Object, Text, copy_bytes};
-use luks_json::{Derivation, Kdf, Luks2, Pbkdf2, SlotArea, Splitter};
+use luks_meta::{Derivation, Kdf, Luks2, Pbkdf2, SlotArea, Splitter};
 use luks_rules::Valid;
 use pbkdf2_hmac::{Hash, MOST_ROUNDS, derive};
 use sector_cipher::{Context, Spec};

@@ -11,7 +11,7 @@ ghost use Rattle.luks_slots.specs.Unlocks.{refusals, refused};
 use crate::fault::Refusal;
 use crate::functions::{Functions, cipher_spec, named_functions};
 use crate::kinds::kind_by;
-use luks_json::{Derivation, Digest, Encryption, Keyslot, Luks2, Parts, Priority, Segment};
+use luks_meta::{Derivation, Digest, Encryption, Keyslot, Luks2, Parts, Priority, Segment};
 use luks_rules::lists_number;
 use sector_cipher::Spec;
 use std::alloc::{AllocError, Global};

@@ -4,7 +4,7 @@ ghost use Rattle.std.specs.Prelude.{◌≡◌, ◌≤◌, ◌+◌, ◌*◌, ◌%
 ghost use Rattle.std.specs.Prelude.{Some, IfOk, OnOk, IsErr};
 ghost use Rattle.af_split.specs.Af.{merged};
 ghost use Rattle.base_terms.specs.Causes.{Rose};
-ghost use Rattle.luks_json.specs.Names.{is_iterations};
+ghost use Rattle.luks_meta.specs.Names.{is_iterations};
 ghost use Rattle.luks_slots.specs.Devices.{IsUnwritten};
 ghost use Rattle.luks_slots.specs.Functions.{has_key_length};
 ghost use Rattle.luks_slots.specs.Slots.{HasSizes, LiesOn};
@@ -18,7 +18,7 @@ use crate::slots::STRIPES;
 use af_split::merge;
 use base_terms::Failed;
 use cipher_laws::SectorCipher;
-use luks_json::{Luks2, Pbkdf2};
+use luks_meta::{Luks2, Pbkdf2};
 use pbkdf2_hmac::derive;
 use sector_cipher::Context;
 use sector_disk::Disk;

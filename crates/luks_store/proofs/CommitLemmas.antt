@@ -23,7 +23,7 @@ use Rattle.luks_store.proofs.CopyLemmas.{Spelt}
 use Rattle.luks_store.proofs.GivenLemmas.{Newer, is_first, is_second, are_same, are_other}
 use Rattle.luks_store.proofs.GivenLemmas.{copy-found, inside, newer, numbered-by, sized-by}
 use Rattle.luks_json.specs.Metas.{meta_from}
-use Rattle.luks_json.specs.declared.meta.Parts.{Parts}
+use Rattle.luks_meta.specs.declared.meta.Parts.{Parts}
 use Rattle.luks_rules.specs.Rules.{first_fault}
 use Rattle.luks_store.proofs.JudgeLemmas.{judged-ok}
 use Rattle.luks_store.proofs.PageLemmas.{page-atoms, page-place, size-pages}

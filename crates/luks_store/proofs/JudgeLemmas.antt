@@ -3,7 +3,7 @@ use Rattle.std.proofs.Common.{◌≡◌, None, Ok, refl}
 use Rattle.base_terms.specs.declared.disk_sizes.Sizes.{Sizes}
 use Rattle.luks_bin.specs.Copies.{text_of}
 use Rattle.luks_json.specs.Metas.{meta_from}
-use Rattle.luks_json.specs.declared.meta.Parts.{Parts}
+use Rattle.luks_meta.specs.declared.meta.Parts.{Parts}
 use Rattle.luks_rules.specs.Rules.{first_fault}
 use Rattle.luks_store.specs.Loads.{judged}
 use Rattle.luks_store.specs.declared.copies.Copies.{Copies}

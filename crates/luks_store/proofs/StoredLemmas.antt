@@ -20,10 +20,11 @@ use Rattle.luks_bin.proofs.FieldLemmas.{size-least}
 use Rattle.luks_bin.specs.Copies.{text_of, IsCopy}
 use Rattle.luks_json.proofs.ConfigLemmas.{config_read}
 use Rattle.luks_json.specs.Configs.{config_of, origin_in, HasConfig}
-use Rattle.luks_json.specs.Metas.{all_there, config_in, list_in, meta_from, meta_names, meta_of}
+use Rattle.luks_json.specs.Metas.{all_there, config_in, list_in, meta_from, meta_of}
+use Rattle.luks_meta.specs.Metas.{meta_names}
 use Rattle.luks_json.specs.Metas.{parts_of, read_as, top, whole_if}
-use Rattle.luks_json.specs.declared.config.Config.{Config}
-use Rattle.luks_json.specs.declared.meta.Parts.{Parts}
+use Rattle.luks_meta.specs.declared.config.Config.{Config}
+use Rattle.luks_meta.specs.declared.meta.Parts.{Parts}
 use Rattle.json_members.specs.Entries.{IsRising}
 use Rattle.luks_rules.proofs.SoundLemmas.{sound}
 use Rattle.luks_store.proofs.RoomLemmas.{room-of}

@@ -10,7 +10,7 @@ use Rattle.luks_store.specs.Copying.Meanings.{size_in}
 use Rattle.luks_store.specs.Copying.Promises.{MeanTheSame}
 use Rattle.json_members.specs.declared.faults.JsonFault.{JsonFault}
 use Rattle.luks_json.specs.Metas.{meta_from}
-use Rattle.luks_json.specs.declared.meta.Parts.{Parts}
+use Rattle.luks_meta.specs.declared.meta.Parts.{Parts}
 use Rattle.luks_store.proofs.GivenLemmas.{sized-by}
 use Rattle.luks_store.specs.Loads.{because}
 use Rattle.luks_store.specs.Promises.{MetaByMeaning}

@@ -18,7 +18,7 @@ use Rattle.luks_store.specs.declared.header_copies.commit.CommitError.TheVariant
 use Rattle.luks_store.specs.declared.header_copies.repair.Repair.{Repair}
 use Rattle.luks_store.specs.declared.header_copies.repair.RepairStage.TheVariants.{Broken}
 use Rattle.luks_json.specs.Metas.{data_of, meta_from}
-use Rattle.luks_json.specs.declared.meta.Parts.{Parts}
+use Rattle.luks_meta.specs.declared.meta.Parts.{Parts}
 use Rattle.luks_bin.specs.Writing.{written}
 use Rattle.luks_store.specs.Devices.{header_room}
 use Rattle.luks_store.specs.Loads.{judged, stored_in, IsStored}

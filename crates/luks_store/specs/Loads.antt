@@ -5,7 +5,7 @@ use Rattle.base_terms.specs.declared.disk_sizes.Sizes.{Sizes}
 use Rattle.luks_bin.specs.Copies.{text_of}
 use Rattle.luks_bin.specs.Shares.{DifferFirst}
 use Rattle.luks_json.specs.Metas.{meta_from}
-use Rattle.luks_json.specs.declared.meta.Parts.{Parts}
+use Rattle.luks_meta.specs.declared.meta.Parts.{Parts}
 use Rattle.luks_rules.specs.Rules.{first_fault}
 use Rattle.luks_store.specs.Used.{Refusal, no_header, differ, text, rule, copies_in, AreCopies}
 use Rattle.luks_store.specs.declared.copies.Copies.{Copies}

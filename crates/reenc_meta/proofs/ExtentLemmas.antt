@@ -4,14 +4,14 @@ use Rattle.std.proofs.Common.{List, [], ◌∷◌, length, map, get_or, drop, Op
 use Rattle.std.proofs.Common.{true, false, refl, ap, arith}
 use Rattle.std.proofs.lemmas.Bool.{and_from, eq-eqb}
 use Rattle.std.specs.List.{enumerate_from}
-use Rattle.luks_json.specs.declared.digest.Digest.{Digest}
-use Rattle.luks_json.specs.declared.names.Cipher.{Cipher}
-use Rattle.luks_json.specs.declared.names.Cipher.TheVariants.{AesXtsPlain64, AesCbcEssivSha256}
-use Rattle.luks_json.specs.declared.reencrypt.Direction.{Direction}
-use Rattle.luks_json.specs.declared.reencrypt.Direction.TheVariants.{Forward, Backward}
-use Rattle.luks_json.specs.declared.segment.Encryption.{Encryption}
-use Rattle.luks_json.specs.declared.segment.Segment.{Segment}
-use Rattle.luks_json.specs.declared.segment.SegmentSize.TheVariants.{Sized}
+use Rattle.luks_meta.specs.declared.digest.Digest.{Digest}
+use Rattle.luks_meta.specs.declared.names.Cipher.{Cipher}
+use Rattle.luks_meta.specs.declared.names.Cipher.TheVariants.{AesXtsPlain64, AesCbcEssivSha256}
+use Rattle.luks_meta.specs.declared.reencrypt.Direction.{Direction}
+use Rattle.luks_meta.specs.declared.reencrypt.Direction.TheVariants.{Forward, Backward}
+use Rattle.luks_meta.specs.declared.segment.Encryption.{Encryption}
+use Rattle.luks_meta.specs.declared.segment.Segment.{Segment}
+use Rattle.luks_meta.specs.declared.segment.SegmentSize.TheVariants.{Sized}
 use Rattle.luks_rules.specs.Extents.{digest_of, extent_of, mark_of}
 use Rattle.luks_rules.specs.Plans.{begins, is_encrypted, is_marked, is_part, laid_out, parts_of}
 use Rattle.luks_rules.specs.Plans.{rest_of, same_cipher, same_digest}

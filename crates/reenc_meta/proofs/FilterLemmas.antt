@@ -5,8 +5,8 @@ use Rattle.std.proofs.Common.{ap, arith}
 use Rattle.std.proofs.lemmas.Bool.{eq-eqb, eqb-true, ne_eqb, or_from, or_parts}
 use Rattle.std.specs.List.{All, AllByRecursion, cons_option, filter, list_any}
 use Rattle.json_members.specs.Entries.{IsRising}
-use Rattle.luks_json.specs.declared.keyslot.Keyslot.{Keyslot}
-use Rattle.luks_json.specs.declared.keyslot.Keyslot.TheVariants as keyslots
+use Rattle.luks_meta.specs.declared.keyslot.Keyslot.{Keyslot}
+use Rattle.luks_meta.specs.declared.keyslot.Keyslot.TheVariants as keyslots
 use Rattle.luks_rules.specs.Areas.{area_of, areas_of}
 use Rattle.luks_rules.specs.Conversions.{conversion_of, conversions_of, kept_by}
 use Rattle.luks_rules.specs.Overlaps.{overlap, shares}

@@ -13,18 +13,18 @@ use Rattle.std.specs.Option.{IfSome, IsSome, IsSomeAnd, option_and_then}
 use Rattle.std.specs.Str.{bytes_eq}
 use Rattle.base_terms.specs.declared.disk_sizes.Sizes.{Sizes}
 use Rattle.json_members.specs.Entries.{AreEntries, IsRising}
-use Rattle.luks_json.specs.Configs.{IsRequirements, any_foreign, is_foreign, mandatory}
-use Rattle.luks_json.specs.Configs.{origin_by, origin_of, profile}
-use Rattle.luks_json.specs.Digests.{IsDigest}
-use Rattle.luks_json.specs.Keyslots.{IsKeyslot}
-use Rattle.luks_json.specs.Metas.{IsMeta}
-use Rattle.luks_json.specs.Segments.{IsSegment, IsSize}
-use Rattle.luks_json.specs.Tokens.{IsToken}
-use Rattle.luks_json.specs.declared.config.Requirements.{Requirements}
-use Rattle.luks_json.specs.declared.digest.Digest.{Digest}
-use Rattle.luks_json.specs.declared.meta.Parts.{Parts}
-use Rattle.luks_json.specs.declared.segment.Encryption.{Encryption}
-use Rattle.luks_json.specs.declared.segment.Segment.{Segment}
+use Rattle.luks_meta.specs.Configs.{IsRequirements, any_foreign, is_foreign, mandatory}
+use Rattle.luks_meta.specs.Configs.{origin_by, origin_of, profile}
+use Rattle.luks_meta.specs.Digests.{IsDigest}
+use Rattle.luks_meta.specs.Keyslots.{IsKeyslot}
+use Rattle.luks_meta.specs.Metas.{IsMeta}
+use Rattle.luks_meta.specs.Segments.{IsSegment, IsSize}
+use Rattle.luks_meta.specs.Tokens.{IsToken}
+use Rattle.luks_meta.specs.declared.config.Requirements.{Requirements}
+use Rattle.luks_meta.specs.declared.digest.Digest.{Digest}
+use Rattle.luks_meta.specs.declared.meta.Parts.{Parts}
+use Rattle.luks_meta.specs.declared.segment.Encryption.{Encryption}
+use Rattle.luks_meta.specs.declared.segment.Segment.{Segment}
 use Rattle.luks_rules.specs.Areas.{areas_end, areas_of, main_bytes}
 use Rattle.luks_rules.specs.Conversions.{conversions_of, only}
 use Rattle.luks_rules.specs.Extents.{digest_of, extent_of}

@@ -10,12 +10,12 @@ use Rattle.std.specs.List.{All, AllByRecursion, enumerate_from, sum_by}
 use Rattle.std.specs.Option.{IfSome, IsSome}
 use Rattle.base_terms.specs.declared.disk_sizes.Sizes.{Sizes}
 use Rattle.json_members.specs.Entries.{AreEntries, IsRising}
-use Rattle.luks_json.specs.Configs.{is_foreign, mandatory}
-use Rattle.luks_json.specs.Digests.{IsDigest}
-use Rattle.luks_json.specs.Segments.{IsSegment}
-use Rattle.luks_json.specs.declared.digest.Digest.{Digest}
-use Rattle.luks_json.specs.declared.meta.Parts.{Parts}
-use Rattle.luks_json.specs.declared.segment.Segment.{Segment}
+use Rattle.luks_meta.specs.Configs.{is_foreign, mandatory}
+use Rattle.luks_meta.specs.Digests.{IsDigest}
+use Rattle.luks_meta.specs.Segments.{IsSegment}
+use Rattle.luks_meta.specs.declared.digest.Digest.{Digest}
+use Rattle.luks_meta.specs.declared.meta.Parts.{Parts}
+use Rattle.luks_meta.specs.declared.segment.Segment.{Segment}
 use Rattle.luks_rules.specs.Areas.{areas_end, areas_of, header_bytes, main_bytes}
 use Rattle.luks_rules.specs.Conversions.{conversions_of}
 use Rattle.luks_rules.specs.Extents.{digest_of, extent_of}

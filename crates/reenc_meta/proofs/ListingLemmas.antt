@@ -7,7 +7,7 @@ use Rattle.std.proofs.lemmas.List.Sums.{sum_by-cons}
 use Rattle.std.specs.List.{AllByRecursion, count_by, find}
 use Rattle.std.specs.Option.{IfSome, IsSome, option_map}
 use Rattle.json_members.specs.Entries.{IsRising}
-use Rattle.luks_json.specs.declared.digest.Digest.{Digest}
+use Rattle.luks_meta.specs.declared.digest.Digest.{Digest}
 use Rattle.luks_rules.specs.Extents.{digest_of}
 use Rattle.luks_rules.specs.Plans.{same_digest}
 use Rattle.luks_rules.specs.References.{is_there, lists, times_listed}

@@ -4,10 +4,10 @@ use Rattle.std.proofs.Common.{Some, None, true, refl, ap, subst, arith}
 use Rattle.std.specs.List.{All, AllByRecursion}
 use Rattle.std.specs.Option.{IfSome}
 use Rattle.base_terms.specs.declared.disk_sizes.Sizes.{Sizes}
-use Rattle.luks_json.specs.Metas.{IsMeta}
-use Rattle.luks_json.specs.Segments.{IsEncryption, IsSegment}
-use Rattle.luks_json.specs.declared.meta.Parts.{Parts}
-use Rattle.luks_json.specs.declared.segment.Segment.{Segment}
+use Rattle.luks_meta.specs.Metas.{IsMeta}
+use Rattle.luks_meta.specs.Segments.{IsEncryption, IsSegment}
+use Rattle.luks_meta.specs.declared.meta.Parts.{Parts}
+use Rattle.luks_meta.specs.declared.segment.Segment.{Segment}
 use Rattle.luks_rules.specs.Areas.{main_bytes}
 use Rattle.luks_rules.specs.Extents.{extent_of}
 use Rattle.luks_rules.specs.Plans.{blocks_in}

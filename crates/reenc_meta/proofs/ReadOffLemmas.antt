@@ -8,13 +8,13 @@ use Rattle.std.proofs.lemmas.Bool.{and_parts, cases_lt, eq-eqb, eqb-true, le-ltb
 use Rattle.std.specs.List.{slice_get}
 use Rattle.std.specs.Option.{is_some, option_map}
 use Rattle.base_terms.specs.declared.disk_sizes.Sizes.{Sizes}
-use Rattle.luks_json.specs.declared.reencrypt.Direction.{Direction}
-use Rattle.luks_json.specs.declared.reencrypt.Direction.TheVariants.{Forward, Backward}
-use Rattle.luks_json.specs.declared.reencrypt.Mode.{Mode}
-use Rattle.luks_json.specs.declared.reencrypt.Mode.TheVariants.{Reencrypt, Encrypt, Decrypt}
-use Rattle.luks_json.specs.declared.segment.Encryption.{Encryption}
-use Rattle.luks_json.specs.declared.segment.SegmentSize.{SegmentSize}
-use Rattle.luks_json.specs.declared.segment.SegmentSize.TheVariants.{Dynamic, Sized}
+use Rattle.luks_meta.specs.declared.reencrypt.Direction.{Direction}
+use Rattle.luks_meta.specs.declared.reencrypt.Direction.TheVariants.{Forward, Backward}
+use Rattle.luks_meta.specs.declared.reencrypt.Mode.{Mode}
+use Rattle.luks_meta.specs.declared.reencrypt.Mode.TheVariants.{Reencrypt, Encrypt, Decrypt}
+use Rattle.luks_meta.specs.declared.segment.Encryption.{Encryption}
+use Rattle.luks_meta.specs.declared.segment.SegmentSize.{SegmentSize}
+use Rattle.luks_meta.specs.declared.segment.SegmentSize.TheVariants.{Dynamic, Sized}
 use Rattle.luks_rules.specs.Plans.{begins, blocks_in, is_marked, is_part, is_sized, laid_out}
 use Rattle.luks_rules.specs.Plans.{parts_of, rest_of, same_digest}
 use Rattle.luks_rules.specs.Shapes.{fits_mode, has_own_digest, have_two_digests}

@@ -6,11 +6,11 @@ use Rattle.std.proofs.lemmas.List.Folds.{list_any-append}
 use Rattle.std.specs.List.{All, AllByRecursion, list_any}
 use Rattle.std.specs.Option.{IfSome}
 use Rattle.std.specs.Str.{bytes_eq}
-use Rattle.luks_json.specs.Configs.{IsConfig, IsRequirements, is_foreign, mandatory, origin_by}
-use Rattle.luks_json.specs.Configs.{origin_of, profile}
-use Rattle.luks_json.specs.declared.config.Config.{Config}
-use Rattle.luks_json.specs.declared.config.Requirements.{Requirements}
-use Rattle.luks_json.specs.declared.keyslot.Origin.TheVariants.{Own}
+use Rattle.luks_meta.specs.Configs.{IsConfig, IsRequirements, is_foreign, mandatory, origin_by}
+use Rattle.luks_meta.specs.Configs.{origin_of, profile}
+use Rattle.luks_meta.specs.declared.config.Config.{Config}
+use Rattle.luks_meta.specs.declared.config.Requirements.{Requirements}
+use Rattle.luks_meta.specs.declared.keyslot.Origin.TheVariants.{Own}
 use Rattle.luks_rules.specs.Segments.{in_progress}
 use Rattle.reenc_meta.specs.Starts.{HaveSizes}
 use Rattle.reenc_meta.specs.Wishes.{asked_by, config_by}

@@ -5,8 +5,8 @@ use Rattle.std.proofs.lemmas.Bool.{eq-eqb, ne_eqb}
 use Rattle.std.specs.List.{AllByRecursion, find}
 use Rattle.std.specs.Option.{IfSome, option_map}
 use Rattle.json_members.specs.Entries.{IsRising}
-use Rattle.luks_json.specs.declared.digest.Digest.{Digest}
-use Rattle.luks_json.specs.declared.keyslot.Luks2.{Luks2}
+use Rattle.luks_meta.specs.declared.digest.Digest.{Digest}
+use Rattle.luks_meta.specs.declared.keyslot.Luks2.{Luks2}
 use Rattle.luks_rules.specs.Extents.{digest_of}
 use Rattle.luks_rules.specs.Plans.{same_digest}
 use Rattle.luks_rules.specs.References.{is_there, lists}

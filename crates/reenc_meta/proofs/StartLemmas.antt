@@ -7,13 +7,13 @@ use Rattle.std.proofs.lemmas.Bool.{and_from, or_from}
 use Rattle.std.specs.List.{All, AllByRecursion}
 use Rattle.std.specs.Option.{IfSome}
 use Rattle.base_terms.specs.declared.disk_sizes.Sizes.{Sizes}
-use Rattle.luks_json.specs.Digests.{IsDigest}
-use Rattle.luks_json.specs.Keyslots.{IsKeyslot, IsLuks2}
-use Rattle.luks_json.specs.Metas.{IsMeta}
-use Rattle.luks_json.specs.Segments.{IsSegment}
-use Rattle.luks_json.specs.declared.digest.Digest.{Digest}
-use Rattle.luks_json.specs.declared.meta.Parts.{Parts}
-use Rattle.luks_json.specs.declared.segment.Segment.{Segment}
+use Rattle.luks_meta.specs.Digests.{IsDigest}
+use Rattle.luks_meta.specs.Keyslots.{IsKeyslot, IsLuks2}
+use Rattle.luks_meta.specs.Metas.{IsMeta}
+use Rattle.luks_meta.specs.Segments.{IsSegment}
+use Rattle.luks_meta.specs.declared.digest.Digest.{Digest}
+use Rattle.luks_meta.specs.declared.meta.Parts.{Parts}
+use Rattle.luks_meta.specs.declared.segment.Segment.{Segment}
 use Rattle.luks_rules.specs.Areas.{areas_of, main_bytes}
 use Rattle.luks_rules.specs.Extents.{extent_of}
 use Rattle.luks_rules.specs.Plain.{IsWithin}
@@ -60,8 +60,8 @@ use Rattle.reenc_meta.proofs.StartSlotLemmas.{start-other, start-own, start-slot
 use Rattle.reenc_meta.proofs.StartSlotLemmas.{there-slot}
 use Rattle.segment_map.specs.declared.Side.TheVariants.{Old, New, Zone}
 use Rattle.std.proofs.Common.{get_or}
-use Rattle.luks_json.specs.Configs.{is_foreign, mandatory, origin_by, origin_of}
-use Rattle.luks_json.specs.declared.keyslot.Origin.TheVariants.{Own}
+use Rattle.luks_meta.specs.Configs.{is_foreign, mandatory, origin_by, origin_of}
+use Rattle.luks_meta.specs.declared.keyslot.Origin.TheVariants.{Own}
 use Rattle.json_members.specs.Entries.{AreEntries}
 use Rattle.luks_rules.specs.declared.areas.Area.{Area}
 use Rattle.reenc_meta.proofs.FinishLemmas.{own_texts}

@@ -8,13 +8,13 @@ use Rattle.std.proofs.lemmas.Bool.{cases_Bool}
 use Rattle.std.specs.List.{All, AllByRecursion, cons_option, list_any}
 use Rattle.std.specs.Option.{IfSome}
 use Rattle.json_members.specs.Entries.{AreEntries, IsRising}
-use Rattle.luks_json.specs.Keyslots.{IsKeyslot, IsLuks2}
-use Rattle.luks_json.specs.Reencrypts.{IsArea}
-use Rattle.luks_json.specs.declared.digest.Digest.{Digest}
-use Rattle.luks_json.specs.declared.keyslot.Keyslot.{Keyslot}
-use Rattle.luks_json.specs.declared.keyslot.Keyslot.TheVariants as keyslots
-use Rattle.luks_json.specs.declared.keyslot.Luks2.{Luks2}
-use Rattle.luks_json.specs.declared.keyslot.Origin.TheVariants.{Own}
+use Rattle.luks_meta.specs.Keyslots.{IsKeyslot, IsLuks2}
+use Rattle.luks_meta.specs.Reencrypts.{IsArea}
+use Rattle.luks_meta.specs.declared.digest.Digest.{Digest}
+use Rattle.luks_meta.specs.declared.keyslot.Keyslot.{Keyslot}
+use Rattle.luks_meta.specs.declared.keyslot.Keyslot.TheVariants as keyslots
+use Rattle.luks_meta.specs.declared.keyslot.Luks2.{Luks2}
+use Rattle.luks_meta.specs.declared.keyslot.Origin.TheVariants.{Own}
 use Rattle.luks_rules.specs.Areas.{area_of, areas_of, end_of}
 use Rattle.luks_rules.specs.Conversions.{conversion_of, conversions_of}
 use Rattle.luks_rules.specs.Overlaps.{TwoShare, overlap, shares}

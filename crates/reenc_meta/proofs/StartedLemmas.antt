@@ -3,9 +3,9 @@ use Rattle.std.proofs.Common.{◌≡◌, ◌∙◌, ℕ, List, [], ◌∷◌, ma
 use Rattle.std.proofs.Common.{subst, length, get_or}
 use Rattle.std.specs.List.{All}
 use Rattle.base_terms.specs.declared.disk_sizes.Sizes.{Sizes}
-use Rattle.luks_json.specs.Metas.{IsMeta}
-use Rattle.luks_json.specs.declared.meta.Parts.{Parts}
-use Rattle.luks_json.specs.declared.segment.Segment.{Segment}
+use Rattle.luks_meta.specs.Metas.{IsMeta}
+use Rattle.luks_meta.specs.declared.meta.Parts.{Parts}
+use Rattle.luks_meta.specs.declared.segment.Segment.{Segment}
 use Rattle.luks_rules.specs.Extents.{extent_of}
 use Rattle.luks_rules.specs.Rules.{first_fault}
 use Rattle.luks_rules.specs.Shapes.{progress_of}

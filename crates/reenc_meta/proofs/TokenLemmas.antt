@@ -8,8 +8,8 @@ use Rattle.std.specs.Option.{option_and_then}
 use Rattle.std.specs.Ordering.{match_ordering}
 use Rattle.json_members.specs.Members.{IsPlain, IsPlainData}
 use Rattle.json_members.proofs.PlainLemmas.{first, later, put-plain}
-use Rattle.luks_json.specs.Tokens.{IsToken}
-use Rattle.luks_json.specs.declared.token.Token.{Token}
+use Rattle.luks_meta.specs.Tokens.{IsToken}
+use Rattle.luks_meta.specs.declared.token.Token.{Token}
 use Rattle.reenc_meta.specs.Finishes.{items_kept, names_dropped, token_kept, with_list}
 use Rattle.serde_json.specs.Data.{Data, null, boolean, number, string, array, object, Items}
 use Rattle.serde_json.specs.Data.{no_items, item, Members, no_members, member, items_depth}

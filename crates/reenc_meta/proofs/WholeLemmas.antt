@@ -3,7 +3,7 @@ use Rattle.std.proofs.Common.{◌≡◌, ℕ, ◌*◌, ◌&&◌, List, Option, S
 use Rattle.std.proofs.Common.{refl}
 use Rattle.std.proofs.lemmas.Bool.{and_parts}
 use Rattle.std.specs.Option.{IsSome, is_some}
-use Rattle.luks_json.specs.declared.segment.Encryption.{Encryption}
+use Rattle.luks_meta.specs.declared.segment.Encryption.{Encryption}
 use Rattle.luks_rules.specs.Plans.{blocks_in, laid_out, parts_of}
 use Rattle.luks_rules.specs.Shapes.{are_wholes, fits, fits_mode, fits_place, has_own_digest}
 use Rattle.luks_rules.specs.Shapes.{have_two_digests, is_final, is_next_size, is_previous}

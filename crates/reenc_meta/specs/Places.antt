@@ -1,9 +1,9 @@
 -- What a volume asks of its map and of the segments of its sides.
 use Rattle.std.specs.Prelude.{ℕ, ◌≡◌, ◌+◌, ◌*◌, ◌/◌, ◌%◌, ◌^◌, ◌<◌, ◌≤◌, true, IfSome}
 use Rattle.base_terms.specs.declared.disk_sizes.Sizes.{Sizes}
-use Rattle.luks_json.specs.Segments.{is_sector_size}
-use Rattle.luks_json.specs.declared.meta.Parts.{Parts}
-use Rattle.luks_json.specs.declared.segment.Encryption.{Encryption}
+use Rattle.luks_meta.specs.Segments.{is_sector_size}
+use Rattle.luks_meta.specs.declared.meta.Parts.{Parts}
+use Rattle.luks_meta.specs.declared.segment.Encryption.{Encryption}
 use Rattle.luks_rules.specs.Areas.{areas_end}
 use Rattle.luks_rules.specs.States.{IsPlaced}
 use Rattle.luks_rules.specs.declared.extents.Extent.{Extent}

@@ -1,7 +1,7 @@
 -- The runs of a volume's blocks while it is converted, each on one side, in logical order.
 use Rattle.std.specs.Prelude.{ℕ, ◌+◌, ◌==◌, List, [], ◌∷◌, ◌++◌, map, if◌then◌else◌}
-use Rattle.luks_json.specs.declared.reencrypt.Direction.{Direction}
-use Rattle.luks_json.specs.declared.reencrypt.Direction.TheVariants.{Forward, Backward}
+use Rattle.luks_meta.specs.declared.reencrypt.Direction.{Direction}
+use Rattle.luks_meta.specs.declared.reencrypt.Direction.TheVariants.{Forward, Backward}
 use Rattle.luks_rules.specs.declared.plan.Plan.{Plan}
 use Rattle.reenc_meta.specs.declared.runs.Run.{Run}
 use Rattle.segment_map.specs.declared.Side.{Side}

@@ -4,14 +4,14 @@ use Rattle.std.specs.Prelude.{Some}
 use Rattle.std.specs.Prelude.{None, option_map, true, if◌then◌else◌, IsSomeAnd}
 use Rattle.std.specs.List.{insert}
 use Rattle.base_terms.specs.declared.disk_sizes.Sizes.{Sizes}
-use Rattle.luks_json.specs.declared.digest.Digest.{Digest}
-use Rattle.luks_json.specs.declared.keyslot.Keyslot.{Keyslot}
-use Rattle.luks_json.specs.declared.keyslot.Keyslot.TheVariants as keyslots
-use Rattle.luks_json.specs.declared.keyslot.Luks2.{Luks2}
-use Rattle.luks_json.specs.declared.meta.Parts.{Parts}
-use Rattle.luks_json.specs.declared.reencrypt.Direction.{Direction}
-use Rattle.luks_json.specs.declared.reencrypt.Direction.TheVariants.{Forward, Backward}
-use Rattle.luks_json.specs.declared.segment.Segment.{Segment}
+use Rattle.luks_meta.specs.declared.digest.Digest.{Digest}
+use Rattle.luks_meta.specs.declared.keyslot.Keyslot.{Keyslot}
+use Rattle.luks_meta.specs.declared.keyslot.Keyslot.TheVariants as keyslots
+use Rattle.luks_meta.specs.declared.keyslot.Luks2.{Luks2}
+use Rattle.luks_meta.specs.declared.meta.Parts.{Parts}
+use Rattle.luks_meta.specs.declared.reencrypt.Direction.{Direction}
+use Rattle.luks_meta.specs.declared.reencrypt.Direction.TheVariants.{Forward, Backward}
+use Rattle.luks_meta.specs.declared.segment.Segment.{Segment}
 use Rattle.luks_rules.specs.Idles.{idle_of}
 use Rattle.luks_rules.specs.Rules.{first_fault}
 use Rattle.luks_rules.specs.Shapes.{progress_of}

@@ -4,9 +4,9 @@ use Rattle.std.specs.Prelude.{None}
 use Rattle.std.specs.Prelude.{IfSome, IsSome}
 use Rattle.std.specs.List.{All}
 use Rattle.base_terms.specs.declared.disk_sizes.Sizes.{Sizes}
-use Rattle.luks_json.specs.Configs.{is_foreign, mandatory}
-use Rattle.luks_json.specs.declared.meta.Parts.{Parts}
-use Rattle.luks_json.specs.declared.segment.SegmentSize.TheVariants.{Dynamic}
+use Rattle.luks_meta.specs.Configs.{is_foreign, mandatory}
+use Rattle.luks_meta.specs.declared.meta.Parts.{Parts}
+use Rattle.luks_meta.specs.declared.segment.SegmentSize.TheVariants.{Dynamic}
 use Rattle.luks_rules.specs.Areas.{areas_of, main_bytes}
 use Rattle.luks_rules.specs.Conversions.{conversions_of}
 use Rattle.luks_rules.specs.Extents.{extent_of}

@@ -2,7 +2,7 @@
 
 ghost use Rattle.std.specs.Prelude.{◌≡◌, ◌*◌, ◌<◌, ◌^◌, IfOk, map, not};
 ghost use Rattle.std.specs.List.{filter};
-ghost use Rattle.luks_json.specs.Configs.{is_foreign};
+ghost use Rattle.luks_meta.specs.Configs.{is_foreign};
 ghost use Rattle.luks_rules.specs.Plans.{blocks_in};
 ghost use Rattle.reenc_meta.specs.Finishes.{finished_digest, finished_numbers, finished_segment};
 ghost use Rattle.reenc_meta.specs.Finishes.{finished_size, token_kept};
@@ -14,7 +14,7 @@ use crate::reenc::Reenc;
 use crate::token::keep_token;
 use base_terms::Sizes;
 use json_members::{Entry, Listed, Object, Text};
-use luks_json::{
+use luks_meta::{
     Config, Digest, Keyslot, Meta, PROFILE, Parts, Requirements, Resilience, Segment, SegmentSize,
     Token,
 };

@@ -1,7 +1,7 @@
 // Laws of placements, with nothing to run.
 
 ghost use Rattle.base_terms.specs.declared.disk_sizes.Sizes.{Sizes};
-ghost use Rattle.luks_json.specs.declared.meta.Parts.{Parts};
+ghost use Rattle.luks_meta.specs.declared.meta.Parts.{Parts};
 ghost use Rattle.reenc_meta.specs.Placements.{IsPlacementOf};
 ghost use Rattle.reenc_meta.specs.Places.{AreOne};
 ghost use Rattle.reenc_meta.specs.declared.placement.Placement.{Placement as placement};

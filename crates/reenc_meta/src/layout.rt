@@ -10,7 +10,7 @@ ghost use Rattle.reenc_meta.specs.Layouts.{segments_by, segments_under, whole_on
 
 use crate::runs::Run;
 use json_members::{Entry, Listed, Object, Text};
-use luks_json::{Digest, Encryption, Segment, SegmentSize};
+use luks_meta::{Digest, Encryption, Segment, SegmentSize};
 use luks_rules::{Extent, Progress};
 use segment_map::Side;
 use std::alloc::{AllocError, Global};

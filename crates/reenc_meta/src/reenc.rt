@@ -15,7 +15,7 @@ use crate::layout::{copy_wholes, list_digests, list_segments};
 use crate::placement::base_atom;
 use crate::runs::{list_runs, list_sides};
 use json_members::{Listed, copy_entries};
-use luks_json::{Direction, Meta, Parts, Resilience};
+use luks_meta::{Direction, Meta, Parts, Resilience};
 use luks_rules::{Plan, Progress, Valid};
 use segment_map::Map;
 use std::alloc::{AllocError, Global};

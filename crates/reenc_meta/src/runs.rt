@@ -3,7 +3,7 @@
 ghost use Rattle.std.specs.Prelude.{◌≡◌, ◌+◌, ◌<◌, ◌^◌, ◌++◌, IfOk, OnOk};
 ghost use Rattle.reenc_meta.specs.Runs.{runs_of, sides_of, some_of};
 
-use luks_json::Direction;
+use luks_meta::Direction;
 use luks_rules::Plan;
 use segment_map::Side;
 use std::alloc::{AllocError, Global};

@@ -3,7 +3,7 @@
 ghost use Rattle.std.specs.Prelude.{◌≡◌, ◌+◌, ◌<◌, ◌≤◌, ◌^◌, ◌++◌, [], ◌∷◌, IfOk, IfSome};
 ghost use Rattle.std.specs.Prelude.{IsSomeAnd};
 ghost use Rattle.std.specs.Prelude.{OnOk, length, option_map, true};
-ghost use Rattle.luks_json.specs.Metas.{IsMeta};
+ghost use Rattle.luks_meta.specs.Metas.{IsMeta};
 ghost use Rattle.luks_rules.specs.Idles.{idle_of};
 ghost use Rattle.luks_rules.specs.Shapes.{stays_dynamic};
 ghost use Rattle.reenc_meta.specs.Layouts.{HasPlace, numbers_under};
@@ -25,7 +25,7 @@ use crate::runs::{list_runs, list_sides};
 use crate::wish::Wish;
 use base_terms::Sizes;
 use json_members::{Entry, Listed, Object, Text, copy_entries};
-use luks_json::{
+use luks_meta::{
     Config, Digest, Direction, Encryption, Keyslot, Luks2, Meta, Mode, PROFILE, Parts, Reencrypt,
     ReencryptArea, Requirements, Resilience, Segment, SegmentSize,
 };

@@ -7,7 +7,7 @@ ghost use Rattle.reenc_meta.specs.Finishes.{is_dropped, items_kept, names_droppe
 
 use crate::finishing::is_dropped_slot;
 use json_members::{Object, decimal_number};
-use luks_json::{Digest, Token};
+use luks_meta::{Digest, Token};
 use luks_rules::Progress;
 use serde_json::Value;
 use std::alloc::{AllocError, Global};

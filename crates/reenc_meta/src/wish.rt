@@ -1,6 +1,6 @@
 // What a conversion is to become.
 
-use luks_json::{Cipher, Digest, Direction, Luks2, Mode, ReencryptArea};
+use luks_meta::{Cipher, Digest, Direction, Luks2, Mode, ReencryptArea};
 
 /// What a volume is to be converted into, and how.
 #[derive(Drop)]

@@ -1,7 +1,7 @@
 -- Why a volume isn't opened, cause by cause.
 use Rattle.std.proofs.Common.{ℕ, List, Option}
 use Rattle.base_terms.specs.declared.disk_sizes.Sizes.{Sizes}
-use Rattle.luks_json.specs.declared.meta.Parts.{Parts}
+use Rattle.luks_meta.specs.declared.meta.Parts.{Parts}
 use Rattle.reenc_meta.specs.Placements.{IsPlacementOf}
 use Rattle.reenc_meta.specs.declared.placement.Placement.{Placement}
 use Rattle.reenc_recovery.specs.Causes.{IsNoKey, IsRefusedVolume}

@@ -6,7 +6,7 @@ use Rattle.std.proofs.Common.{◌∙◌, ap, subst, arith}
 use Rattle.std.proofs.lemmas.List.{drop-drop}
 use Rattle.base_terms.specs.declared.disk_sizes.Sizes.{Sizes}
 use Rattle.sector_disk.specs.DiskViews.Parts.{block_at, value_in}
-use Rattle.luks_json.specs.declared.meta.Parts.{Parts}
+use Rattle.luks_meta.specs.declared.meta.Parts.{Parts}
 use Rattle.luks_rules.specs.Areas.{areas_begin, areas_end}
 use Rattle.luks_rules.specs.declared.valid.Checked.{Checked}
 use Rattle.luks_store.specs.Devices.{front_of}

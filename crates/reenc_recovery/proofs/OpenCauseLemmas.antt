@@ -4,7 +4,7 @@ use Rattle.std.proofs.Common.{arith}
 use Rattle.base_terms.specs.Causes.{Rose}
 use Rattle.base_terms.specs.declared.disk_sizes.Sizes.{Sizes}
 use Rattle.luks_store.specs.declared.header_copies.repair.Repair.{Repair}
-use Rattle.luks_json.specs.declared.meta.Parts.{Parts}
+use Rattle.luks_meta.specs.declared.meta.Parts.{Parts}
 use Rattle.luks_store.specs.Loads.{HasCause, Says}
 use Rattle.luks_store.specs.Used.{Refusal}
 use Rattle.luks_store.specs.declared.fault.StoreFault.{StoreFault}

@@ -11,7 +11,7 @@ use Rattle.luks_store.specs.Copying.Held.{copy_in, place_in}
 use Rattle.luks_store.specs.Copying.Meanings.{header_reader}
 use Rattle.luks_store.specs.Copying.Promises.{MeanTheSame}
 use Rattle.luks_store.specs.declared.header_copies.repair.Repair.{Repair}
-use Rattle.luks_json.specs.declared.meta.Parts.{Parts}
+use Rattle.luks_meta.specs.declared.meta.Parts.{Parts}
 use Rattle.luks_rules.specs.Areas.{areas_begin, header_bytes}
 use Rattle.luks_rules.specs.declared.valid.Checked.{Checked}
 use Rattle.luks_store.specs.Devices.{front_of}

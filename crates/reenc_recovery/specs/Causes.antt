@@ -2,8 +2,8 @@
 use Rattle.std.specs.Prelude.{◌≡◌, ℕ, List, Option, true, Result, Ok, Err}
 use Rattle.base_terms.specs.Causes.{Rose}
 use Rattle.base_terms.specs.declared.disk_sizes.Sizes.{Sizes}
-use Rattle.luks_json.specs.declared.digest.Digest.{Digest}
-use Rattle.luks_json.specs.declared.meta.Parts.{Parts}
+use Rattle.luks_meta.specs.declared.digest.Digest.{Digest}
+use Rattle.luks_meta.specs.declared.meta.Parts.{Parts}
 use Rattle.luks_rules.specs.Segments.{in_progress}
 use Rattle.luks_rules.specs.declared.extents.Extent.{Extent}
 use Rattle.luks_bin.specs.Shares.{DifferFirst}

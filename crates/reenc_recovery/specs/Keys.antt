@@ -1,9 +1,9 @@
 -- The keys of a volume's segments, and how blocks are sealed under them.
 use Rattle.std.specs.Prelude.{ℕ, ◌≡◌, ◌≢◌, ◌<◌, ◌⊎◌, List, [], length, Option, Some, None, true}
 use Rattle.std.specs.Prelude.{option_and_then, unwrap_or}
-use Rattle.luks_json.specs.declared.digest.Digest.{Digest}
-use Rattle.luks_json.specs.declared.meta.Parts.{Parts}
-use Rattle.luks_json.specs.declared.segment.Encryption.{Encryption}
+use Rattle.luks_meta.specs.declared.digest.Digest.{Digest}
+use Rattle.luks_meta.specs.declared.meta.Parts.{Parts}
+use Rattle.luks_meta.specs.declared.segment.Encryption.{Encryption}
 use Rattle.luks_rules.specs.References.{value_at}
 use Rattle.luks_rules.specs.declared.extents.Extent.{Extent}
 use Rattle.luks_slots.specs.Functions.{named_cipher}

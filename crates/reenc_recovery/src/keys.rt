@@ -2,9 +2,9 @@
 
 ghost use Rattle.std.specs.Prelude.{◌≡◌, ◌≢◌, ◌⊎◌, ℕ, true, false, List, [], length, Some};
 ghost use Rattle.std.specs.Prelude.{IfOk, IfErr, IfSome, IsSome, MatchResult};
-ghost use Rattle.luks_json.specs.Names.{is_iterations};
-ghost use Rattle.luks_json.specs.Segments.{is_sector_size};
-ghost use Rattle.luks_json.specs.declared.digest.Digest.{Digest as digest_type};
+ghost use Rattle.luks_meta.specs.Names.{is_iterations};
+ghost use Rattle.luks_meta.specs.Segments.{is_sector_size};
+ghost use Rattle.luks_meta.specs.declared.digest.Digest.{Digest as digest_type};
 ghost use Rattle.luks_rules.specs.References.{value_at};
 ghost use Rattle.luks_rules.specs.States.{IsUnder};
 ghost use Rattle.luks_slots.specs.Functions.{named_cipher};
@@ -17,7 +17,7 @@ ghost use Rattle.sector_cipher.specs.declared.spec.Spec.{Spec as spec_type};
 use crate::fault::OpenCause;
 use base_terms::Bytes;
 use cipher_laws::SectorCipher;
-use luks_json::{Digest, Encryption};
+use luks_meta::{Digest, Encryption};
 use luks_rules::{Extent, Valid};
 use luks_slots::{
     FEWEST_DIGEST_BYTES, Key, MOST_DIGEST_BYTES, cipher_spec, derive_digest, is_key_of,

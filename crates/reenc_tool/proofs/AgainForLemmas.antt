@@ -26,8 +26,8 @@ use Rattle.volume_machine.specs.Runs.{no_plain}
 use Rattle.volume_machine.specs.States.{State}
 use Rattle.volume_machine.specs.declared.keys.Keys.{Keys}
 use Rattle.volume_opening.specs.Openings.{alone}
-use Rattle.zone_events.specs.Heads.{header_on}
-use Rattle.zone_events.specs.Readings.{reading_of}
+use Rattle.hotzone.specs.ZoneEvents.Heads.{header_on}
+use Rattle.hotzone.specs.ZoneEvents.Readings.{reading_of}
 use Rattle.reenc_tool.proofs.MidwayLemmas.{MidwayLaws, keeps-beside, known-before, one-disk}
 use Rattle.reenc_tool.specs.KeptBeside.{StandsAgainBeside, StandsAllowedFor}
 

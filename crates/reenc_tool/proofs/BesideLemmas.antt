@@ -51,7 +51,7 @@ use Rattle.volume_machine.specs.WorkSteps.{finished, hindered, leaves_broken, no
 use Rattle.volume_machine.specs.WorkSteps.{no_room, stepped, was_broken}
 use Rattle.volume_laws.specs.WorkerRuns.Conversions.{IsFaultless}
 use Rattle.volume_laws.specs.WorkerRuns.Steps.{end_by, told_by}
-use Rattle.zone_events.specs.Readings.{reading_of}
+use Rattle.hotzone.specs.ZoneEvents.Readings.{reading_of}
 
 -- ---- the step that brought an end
 -- what a step was that was answered by one of these ends

@@ -49,7 +49,7 @@ use Rattle.volume_machine.specs.Sound.{IsSound}
 use Rattle.volume_machine.specs.States.{State}
 use Rattle.volume_machine.specs.WorkSteps.{Worked, finished}
 use Rattle.volume_machine.specs.Works.{Work}
-use Rattle.zone_events.specs.Readings.{reading_of}
+use Rattle.hotzone.specs.ZoneEvents.Readings.{reading_of}
 
 -- the laws that this stands on
 pub record ServingLaws : Type 0 where

@@ -32,7 +32,7 @@ use Rattle.volume_machine.specs.Answers.{untagged}
 use Rattle.volume_machine.specs.Deeds.{AreDeeds, Deed, state_after}
 use Rattle.volume_machine.specs.States.{IsClient, State, open_at}
 use Rattle.volume_opening.specs.Openings.{alone}
-use Rattle.zone_events.specs.Readings.{reading_of}
+use Rattle.hotzone.specs.ZoneEvents.Readings.{reading_of}
 
 never-both : {T : Type 0} {x : T} → None ≡ Some x → ⊥
 never-both e = cc

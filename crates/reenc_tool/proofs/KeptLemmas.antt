@@ -36,10 +36,10 @@ use Rattle.volume_machine.specs.States.{State}
 use Rattle.volume_machine.specs.declared.keys.Keys.{Keys}
 use Rattle.volume_opening.specs.Openings.{alone}
 use Rattle.volume_laws.specs.WorkerRuns.Conversions.{HasConverted}
-use Rattle.zone_events.proofs.GroundLemmas.{busy-of}
-use Rattle.zone_events.specs.Heads.{header_on}
-use Rattle.zone_events.specs.Readings.{reading_of}
-use Rattle.zone_events.specs.Works.{layout_for}
+use Rattle.hotzone.proofs.ZoneEvents.GroundLemmas.{busy-of}
+use Rattle.hotzone.specs.ZoneEvents.Heads.{header_on}
+use Rattle.hotzone.specs.ZoneEvents.Readings.{reading_of}
+use Rattle.hotzone.specs.ZoneEvents.Works.{layout_for}
 use Rattle.reenc_tool.specs.Kept.{KeepsRun, KnowsKeys, StandsAtEnd, StandsAtStops}
 
 -- the laws that this stands on

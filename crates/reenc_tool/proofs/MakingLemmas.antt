@@ -20,8 +20,8 @@ use Rattle.sector_disk.specs.declared.device.Disk.{Ghosts}
 use Rattle.luks_format.specs.declared.format_disk.volume.NewVolume.{NewVolume}
 use Rattle.luks_format.specs.Wishes.{FitsDisk, IsWish}
 use Rattle.luks_format.specs.declared.wish.Wish.{Wish}
-use Rattle.luks_json.specs.declared.names.Cipher.{Cipher}
-use Rattle.luks_json.specs.declared.names.Cipher.TheVariants.{AesXtsPlain64, AesCbcEssivSha256}
+use Rattle.luks_meta.specs.declared.names.Cipher.{Cipher}
+use Rattle.luks_meta.specs.declared.names.Cipher.TheVariants.{AesXtsPlain64, AesCbcEssivSha256}
 use Rattle.luks_slots.specs.Functions.{named_cipher}
 use Rattle.image_laws.specs.Made.Standing.{NewVolumesStand}
 use Rattle.sector_cipher.specs.Names.{IsKeyLength}

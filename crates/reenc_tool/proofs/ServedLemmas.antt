@@ -39,7 +39,7 @@ use Rattle.volume_machine.specs.Runs.{Happening, IsRun, answered_in, last_of, no
 use Rattle.volume_machine.specs.Seals.{AreLawful, Seals}
 use Rattle.volume_machine.specs.Sound.{IsSound}
 use Rattle.volume_machine.specs.States.{State}
-use Rattle.zone_events.specs.Readings.{reading_of}
+use Rattle.hotzone.specs.ZoneEvents.Readings.{reading_of}
 
 -- what was found of sessions that came so, whose links stand so, beside a worker that ended so
 pub record AreFound {L : Type 0} (state : L → LinkState) (final : State VolumeKeys)

@@ -41,7 +41,7 @@ use Rattle.volume_opening.specs.Openings.{IsFound, alone}
 use Rattle.volume_opening.specs.Refusals.{IsRefusedKey, IsUnopenedBy}
 use Rattle.volume_opening.specs.declared.refusal.Refusal.{Refusal as OpeningRefusal}
 use Rattle.volume_opening.specs.declared.refusal.Refusal.TheVariants.{InProgress}
-use Rattle.zone_events.specs.Readings.{reading_of}
+use Rattle.hotzone.specs.ZoneEvents.Readings.{reading_of}
 
 -- the device that was handed in, and as it was when the conversion was to be taken up
 module _ (device read : Device) (kept : KeepsBytes device read) where

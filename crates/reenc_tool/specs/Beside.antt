@@ -38,7 +38,7 @@ use Rattle.volume_machine.specs.States.{State, size_of}
 use Rattle.volume_machine.specs.WorkSteps.{WorkStep}
 use Rattle.volume_machine.specs.Works.{Progress}
 use Rattle.volume_laws.specs.WorkerRuns.Conversions.{IsFaultless}
-use Rattle.zone_events.specs.Readings.{reading_of}
+use Rattle.hotzone.specs.ZoneEvents.Readings.{reading_of}
 
 -- ---- stops
 -- Wherever deeds stop that begin behind a header with a certain disk, each image that is taken stands for

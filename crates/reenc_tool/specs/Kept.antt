@@ -35,8 +35,8 @@ use Rattle.volume_machine.specs.Deeds.{Deed, state_after}
 use Rattle.volume_machine.specs.States.{State}
 use Rattle.volume_machine.specs.declared.keys.Keys.{Keys}
 use Rattle.volume_opening.specs.Openings.{IsTried, alone}
-use Rattle.zone_events.specs.Heads.{header_on}
-use Rattle.zone_events.specs.Readings.{reading_of}
+use Rattle.hotzone.specs.ZoneEvents.Heads.{header_on}
+use Rattle.hotzone.specs.ZoneEvents.Readings.{reading_of}
 
 -- ---- the keys
 -- The content for which the disk stood under the passphrase is one for which it stood under the keys that

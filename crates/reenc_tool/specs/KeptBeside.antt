@@ -30,8 +30,8 @@ use Rattle.volume_machine.specs.States.{State}
 use Rattle.volume_machine.specs.Works.{converting}
 use Rattle.volume_machine.specs.declared.keys.Keys.{Keys}
 use Rattle.volume_opening.specs.Openings.{alone}
-use Rattle.zone_events.specs.Heads.{header_on}
-use Rattle.zone_events.specs.Readings.{reading_of}
+use Rattle.hotzone.specs.ZoneEvents.Heads.{header_on}
+use Rattle.hotzone.specs.ZoneEvents.Readings.{reading_of}
 
 -- What a volume holds now stands for this content under these keys, by this header, of which no zone is
 -- open; and deeds start from it as from the plain disk that holds the content for certain, in whose places

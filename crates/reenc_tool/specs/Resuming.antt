@@ -19,7 +19,7 @@ use Rattle.recovery_laws.specs.Resumed.Starts.{volume_seals}
 use Rattle.sector_cipher.specs.declared.disk.DiskCipher.{DiskCipher}
 use Rattle.sector_disk.specs.Devices.{Device as DiskState}
 use Rattle.recovery_laws.specs.Served.Clients.{StoodFor}
-use Rattle.zone_events.specs.Readings.{reading_of}
+use Rattle.hotzone.specs.ZoneEvents.Readings.{reading_of}
 use Rattle.reenc_tool.specs.declared.ended.Cause.TheVariants.{Fine, Memory}
 use Rattle.reenc_tool.specs.declared.volume_refusal.VolumeRefusal.TheVariants.{Resuming}
 use Rattle.reenc_tool.specs.Encrypted.{AsksKey, HasNoKeyFile}

@@ -12,7 +12,7 @@ use Rattle.io_edge.specs.Supply.{Supply}
 use Rattle.luks_init.specs.declared.wish.Guard.{Guard}
 use Rattle.luks_init.specs.declared.wish.Guard.TheVariants.{Journal, Checksum}
 use Rattle.luks_init.specs.declared.wish.Wish.{Wish}
-use Rattle.luks_json.specs.Reencrypts.{direction_name}
+use Rattle.luks_meta.specs.Reencrypts.{direction_name}
 use Rattle.sector_disk.specs.Devices.{Device as DiskState}
 use Rattle.reenc_tool.specs.declared.ended.Cause.TheVariants.{Fine, Memory}
 use Rattle.reenc_tool.specs.declared.volume_refusal.VolumeRefusal.{VolumeRefusal}

@@ -28,8 +28,8 @@ use Rattle.volume_machine.specs.Answers.{untagged}
 use Rattle.volume_machine.specs.Deeds.{AreDeeds, Deed, state_after}
 use Rattle.volume_machine.specs.Runs.{Happening, IsRun, last_of}
 use Rattle.volume_machine.specs.States.{State}
-use Rattle.zone_events.specs.Heads.{header_on}
-use Rattle.zone_events.specs.Readings.{reading_of}
+use Rattle.hotzone.specs.ZoneEvents.Heads.{header_on}
+use Rattle.hotzone.specs.ZoneEvents.Readings.{reading_of}
 use Rattle.reenc_tool.specs.Beside.{HasServedConverting, IsRunOfWhole}
 use Rattle.reenc_tool.specs.Encrypted.{HandsBack, RanOver}
 use Rattle.reenc_tool.specs.Kept.{KeepsRefused, KnowsRefused, WhereNoneFailed}

@@ -20,7 +20,7 @@ use Rattle.volume_machine.specs.declared.keys.Keys.{Keys}
 use Rattle.volume_opening.specs.Openings.{IsOpenedBy}
 use Rattle.volume_opening.specs.Refusals.{IsUnopenedBy}
 use Rattle.volume_opening.specs.declared.refusal.Refusal.TheVariants.{InProgress}
-use Rattle.zone_events.specs.Readings.{reading_of}
+use Rattle.hotzone.specs.ZoneEvents.Readings.{reading_of}
 
 -- it was opened, with so many lanes, or its conversion was taken up
 abbrev pub IsAnyVolume : {C : Type 0} → (C → ℕ) → (C → ℕ → List ℕ → List ℕ)

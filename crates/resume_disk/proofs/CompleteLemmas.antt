@@ -8,7 +8,7 @@ use Rattle.conversion_opening.specs.declared.fault.ConversionCause.{ConversionCa
 use Rattle.conversion_opening.specs.declared.fault.ConversionCause.TheVariants as causes
 use Rattle.header_report.specs.Examinations.{sizes_alone}
 use Rattle.sector_disk.specs.JoinedDisks.Joined.{Joint, in_front, joined_disk}
-use Rattle.luks_json.specs.declared.meta.Parts.{Parts}
+use Rattle.luks_meta.specs.declared.meta.Parts.{Parts}
 use Rattle.luks_rules.specs.declared.shape.Progress.{Progress}
 use Rattle.luks_slots.specs.Unlocks.{IsCutShort}
 use Rattle.luks_slots.specs.declared.fault.SlotFault.{SlotFault}

@@ -4,9 +4,9 @@ use Rattle.std.proofs.Common.{Ok, Err, ap, sym, subst, refl, IsSome}
 use Rattle.std.specs.Prelude.{option_and_then}
 use Rattle.base_terms.specs.declared.disk_sizes.Sizes.{Sizes}
 use Rattle.sector_disk.specs.JoinedDisks.Counts.{HasSizes}
-use Rattle.luks_json.specs.declared.digest.Digest.{Digest}
-use Rattle.luks_json.specs.declared.meta.Parts.{Parts}
-use Rattle.luks_json.specs.declared.segment.Encryption.{Encryption}
+use Rattle.luks_meta.specs.declared.digest.Digest.{Digest}
+use Rattle.luks_meta.specs.declared.meta.Parts.{Parts}
+use Rattle.luks_meta.specs.declared.segment.Encryption.{Encryption}
 use Rattle.luks_rules.specs.References.{value_at}
 use Rattle.luks_rules.specs.Segments.{in_progress}
 use Rattle.luks_rules.specs.Shapes.{progress_of}

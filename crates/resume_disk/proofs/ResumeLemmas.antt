@@ -32,7 +32,7 @@ use Rattle.volume_machine.specs.declared.keys.Keys.{Keys}
 use Rattle.volume_opening.proofs.OpenedLemmas.{same_sizes, same_stored}
 use Rattle.volume_opening.proofs.ReadLemmas.{keeps_on}
 use Rattle.volume_opening.specs.Openings.{IsFound, alone}
-use Rattle.zone_events.specs.Readings.{reading_of}
+use Rattle.hotzone.specs.ZoneEvents.Readings.{reading_of}
 use Rattle.image_laws.specs.Led.Holding.{TellsLawfully}
 
 -- ---- header and keys

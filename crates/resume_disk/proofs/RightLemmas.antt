@@ -7,10 +7,10 @@ use Rattle.std.proofs.lemmas.Bool.Decides.{Decides-eqb}
 use Rattle.std.proofs.lemmas.Slice.Eq.{bytes_eq-Decides}
 use Rattle.std.specs.List.{list_all}
 use Rattle.std.specs.Str.{bytes_eq}
-use Rattle.luks_json.specs.declared.digest.Digest.{Digest}
-use Rattle.luks_json.specs.declared.meta.Parts.{Parts}
-use Rattle.luks_json.specs.declared.segment.Encryption.{Encryption}
-use Rattle.luks_json.specs.declared.segment.Segment.{Segment}
+use Rattle.luks_meta.specs.declared.digest.Digest.{Digest}
+use Rattle.luks_meta.specs.declared.meta.Parts.{Parts}
+use Rattle.luks_meta.specs.declared.segment.Encryption.{Encryption}
+use Rattle.luks_meta.specs.declared.segment.Segment.{Segment}
 use Rattle.luks_rules.specs.Extents.{extent_of}
 use Rattle.luks_rules.specs.References.{lists, value_at}
 use Rattle.luks_rules.specs.States.{IsUnder}

@@ -26,9 +26,9 @@ use Rattle.volume_machine.specs.declared.keys.Keys.{Keys}
 use Rattle.volume_machine.specs.declared.open.Open.{Open}
 use Rattle.volume_opening.specs.Refusals.{AreOf, TellsAlone}
 use Rattle.volume_laws.specs.WorkerRuns.Conversions.{HasConverted, MayConvert}
-use Rattle.zone_events.specs.Heads.{header_on}
-use Rattle.zone_events.specs.Readings.{reading_of}
-use Rattle.zone_events.specs.Works.{layout_for}
+use Rattle.hotzone.specs.ZoneEvents.Heads.{header_on}
+use Rattle.hotzone.specs.ZoneEvents.Readings.{reading_of}
+use Rattle.hotzone.specs.ZoneEvents.Works.{layout_for}
 
 -- ---- a volume that was opened has no operation under way, and may be converted
 no_open : (n lane : ℕ) → open_at (replicate n None) lane ≡ None

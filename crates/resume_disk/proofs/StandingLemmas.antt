@@ -9,9 +9,9 @@ use Rattle.base_terms.specs.declared.disk_sizes.Sizes.{Sizes}
 use Rattle.header_report.proofs.ExamineLemmas.{whole_front}
 use Rattle.header_report.specs.Examinations.{sizes_alone}
 use Rattle.hotzone.specs.Sites.{IsSaved}
-use Rattle.luks_json.specs.declared.digest.Digest.{Digest}
-use Rattle.luks_json.specs.declared.meta.Parts.{Parts}
-use Rattle.luks_json.specs.declared.segment.Encryption.{Encryption}
+use Rattle.luks_meta.specs.declared.digest.Digest.{Digest}
+use Rattle.luks_meta.specs.declared.meta.Parts.{Parts}
+use Rattle.luks_meta.specs.declared.segment.Encryption.{Encryption}
 use Rattle.luks_rules.specs.References.{value_at}
 use Rattle.luks_rules.specs.Segments.{in_progress}
 use Rattle.luks_rules.specs.Shapes.{progress_of}
@@ -45,7 +45,7 @@ use Rattle.image_laws.proofs.Started.GapLemmas.{one-header}
 use Rattle.volume_opening.specs.Openings.{IsFound, IsTried}
 use Rattle.volume_opening.specs.Refusals.{IsNotTried}
 use Rattle.volume_opening.specs.Shorts.{IsUnread}
-use Rattle.zone_events.proofs.GroundLemmas.{one-progress}
+use Rattle.hotzone.proofs.ZoneEvents.GroundLemmas.{one-progress}
 
 -- what the keyslots give for a segment they give for its digest
 digest_key : (m : Parts) (image pass key : List ℕ) (c : Option Encryption) (n : Option ℕ)

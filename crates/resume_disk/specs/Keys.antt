@@ -1,8 +1,8 @@
 -- The keys of both sides of a volume that is being converted, as its keyslots give them.
 use Rattle.std.specs.Prelude.{ℕ, ◌≡◌, List, length, Option, Some, true, false, Err, IsSome}
 use Rattle.base_terms.specs.declared.disk_sizes.Sizes.{Sizes}
-use Rattle.luks_json.specs.declared.digest.Digest.{Digest}
-use Rattle.luks_json.specs.declared.meta.Parts.{Parts}
+use Rattle.luks_meta.specs.declared.digest.Digest.{Digest}
+use Rattle.luks_meta.specs.declared.meta.Parts.{Parts}
 use Rattle.luks_rules.specs.References.{value_at}
 use Rattle.luks_rules.specs.Segments.{in_progress}
 use Rattle.luks_rules.specs.Shapes.{progress_of}

@@ -22,9 +22,9 @@ use Rattle.volume_machine.specs.declared.keys.Keys.{Keys}
 use Rattle.volume_opening.specs.Openings.{IsFound, alone}
 use Rattle.volume_opening.specs.Refusals.{AreOf, TellsAlone}
 use Rattle.volume_laws.specs.WorkerRuns.Conversions.{HasConverted, MayConvert}
-use Rattle.zone_events.specs.Heads.{header_on}
-use Rattle.zone_events.specs.Readings.{reading_of}
-use Rattle.zone_events.specs.Works.{layout_for}
+use Rattle.hotzone.specs.ZoneEvents.Heads.{header_on}
+use Rattle.hotzone.specs.ZoneEvents.Readings.{reading_of}
+use Rattle.hotzone.specs.ZoneEvents.Works.{layout_for}
 
 -- ---- header and keys
 -- The header of a disk was read, by which a conversion is under way, and its keyslots gave the keys

@@ -2,7 +2,7 @@
 
 ghost use Rattle.std.specs.Prelude.{ℕ, IfErr, IfOk, IsSome};
 ghost use Rattle.sector_disk.specs.JoinedDisks.Counts.{HasSizes};
-ghost use Rattle.luks_json.specs.declared.digest.Digest.{Digest as digest_type};
+ghost use Rattle.luks_meta.specs.declared.digest.Digest.{Digest as digest_type};
 ghost use Rattle.luks_rules.specs.States.{IsUnder};
 ghost use Rattle.luks_store.specs.Devices.{KeepsBytes};
 ghost use Rattle.resume_disk.specs.Keys.{AreKeysFound, HasNoSideKey, IsNoKeysFound, IsSideKey};

@@ -2,10 +2,10 @@
 use Rattle.std.proofs.Common.{◌≡◌, Some, true, subst, sym}
 use Rattle.std.specs.Option.{IfSome, IsSomeAnd}
 use Rattle.base_terms.specs.declared.disk_sizes.Sizes.{Sizes}
-use Rattle.luks_json.specs.Segments.{is_sector_size}
-use Rattle.luks_json.specs.declared.meta.Parts.{Parts}
-use Rattle.luks_json.specs.declared.reencrypt.Mode.{Mode}
-use Rattle.luks_json.specs.declared.reencrypt.Mode.TheVariants.{Reencrypt, Encrypt, Decrypt}
+use Rattle.luks_meta.specs.Segments.{is_sector_size}
+use Rattle.luks_meta.specs.declared.meta.Parts.{Parts}
+use Rattle.luks_meta.specs.declared.reencrypt.Mode.{Mode}
+use Rattle.luks_meta.specs.declared.reencrypt.Mode.TheVariants.{Reencrypt, Encrypt, Decrypt}
 use Rattle.luks_rules.specs.Extents.{digest_of}
 use Rattle.luks_rules.specs.Idles.{idle_of}
 use Rattle.luks_rules.specs.Segments.{in_progress}

@@ -1,9 +1,9 @@
 -- Wishes whose objects a header may have.
 use Rattle.std.specs.Prelude.{◌≡◌, ◌≤◌, IfSome, true}
-use Rattle.luks_json.specs.Digests.{IsDigest}
-use Rattle.luks_json.specs.Keyslots.{IsLuks2}
-use Rattle.luks_json.specs.Reencrypts.{IsArea}
-use Rattle.luks_json.specs.Segments.{is_sector_size}
+use Rattle.luks_meta.specs.Digests.{IsDigest}
+use Rattle.luks_meta.specs.Keyslots.{IsLuks2}
+use Rattle.luks_meta.specs.Reencrypts.{IsArea}
+use Rattle.luks_meta.specs.Segments.{is_sector_size}
 use Rattle.reenc_meta.specs.declared.wish.Wish.{Wish}
 
 -- What is asked of a wish whatever the volume is.

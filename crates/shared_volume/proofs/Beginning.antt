@@ -5,7 +5,7 @@ use Rattle.volume_laws.specs.BesideLanes.Lanes.{BeginsBeside}
 use Rattle.shared_volume.specs.Histories.{IsReadSo, MayBeShared}
 use Rattle.volume_machine.specs.States.{State}
 use Rattle.volume_machine.specs.Works.{Work}
-use Rattle.zone_events.specs.Readings.{reading_of}
+use Rattle.hotzone.specs.ZoneEvents.Readings.{reading_of}
 
 -- some sizes, of a volume that has no work
 no_sizes : Sizes

@@ -28,7 +28,7 @@ use Rattle.volume_machine.specs.WorkSteps.{Worked, awaits, clashes, faulted, fin
 use Rattle.volume_machine.specs.WorkSteps.{no_memory, no_number, no_room, stepped, was_broken}
 use Rattle.volume_machine.specs.declared.keys.Keys.{Keys}
 use Rattle.volume_laws.specs.WorkerRuns.Steps.{told_by}
-use Rattle.zone_events.specs.Readings.{reading_of}
+use Rattle.hotzone.specs.ZoneEvents.Readings.{reading_of}
 
 -- the last of these calls was answered so, and all before it went on
 record LastAnswered (number : ℕ) (calls : List (Call SharedEvent SharedOutcome))

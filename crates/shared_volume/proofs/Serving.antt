@@ -22,7 +22,7 @@ use Rattle.volume_machine.proofs.EventEffects.{event_effects}
 use Rattle.volume_machine.specs.Runs.{Happening, IsRun, last_of, no_plain}
 use Rattle.volume_machine.specs.Seals.{Seals}
 use Rattle.volume_machine.specs.States.{State, open_at}
-use Rattle.zone_events.specs.Readings.{reading_of}
+use Rattle.hotzone.specs.ZoneEvents.Readings.{reading_of}
 
 -- a lane that is none of clients is left by a run of clients' events
 lane-left : {K : Type 0} (count lane : ℕ) (old : State K) (run : List (Happening K))

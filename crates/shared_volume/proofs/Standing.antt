@@ -35,7 +35,7 @@ use Rattle.volume_machine.specs.States.{IsClient, State}
 use Rattle.volume_machine.specs.Steps.{Meets, Step}
 use Rattle.volume_machine.specs.WorkSteps.{WorkStep}
 use Rattle.volume_core.specs.WorkerLoop.Telling.{converted_in}
-use Rattle.zone_events.specs.Readings.{reading_of}
+use Rattle.hotzone.specs.ZoneEvents.Readings.{reading_of}
 
 -- ---- one deed more
 made-more : {K : Type 0} (reading : Reading) (seals : Seals) (old now : State K)

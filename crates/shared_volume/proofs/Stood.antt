@@ -26,7 +26,7 @@ use Rattle.volume_machine.specs.Readings.{Reading}
 use Rattle.volume_machine.specs.Seals.{Seals}
 use Rattle.volume_machine.specs.States.{State}
 use Rattle.volume_machine.specs.Steps.{Step}
-use Rattle.zone_events.specs.Readings.{reading_of}
+use Rattle.hotzone.specs.ZoneEvents.Readings.{reading_of}
 
 -- a history that ends in an entry tells deeds that end in its deed
 record EndsIn {K : Type 0} (lanes : ℕ) (history : List (Entry SharedEvent SharedOutcome))

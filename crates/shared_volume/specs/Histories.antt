@@ -23,7 +23,7 @@ use Rattle.volume_machine.specs.Seals.{Seals}
 use Rattle.volume_machine.specs.Sound.{IsSound}
 use Rattle.volume_machine.specs.States.{IsIdle, State}
 use Rattle.volume_core.specs.WorkerLoop.Telling.{converted_in}
-use Rattle.zone_events.specs.Readings.{reading_of}
+use Rattle.hotzone.specs.ZoneEvents.Readings.{reading_of}
 
 -- ---- volumes that threads may share
 -- its header is read by these sizes, where it has its conversion's work: any will do where it has

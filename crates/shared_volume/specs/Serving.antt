@@ -25,7 +25,7 @@ use Rattle.volume_machine.specs.Seals.{Seals}
 use Rattle.volume_machine.specs.States.{IsClient, State, open_at}
 use Rattle.volume_machine.specs.WorkSteps.{Worked}
 use Rattle.volume_laws.specs.WorkerRuns.Steps.{told_by}
-use Rattle.zone_events.specs.Readings.{reading_of}
+use Rattle.hotzone.specs.ZoneEvents.Readings.{reading_of}
 
 -- the calls that were made on a lane, by the account under its number
 abbrev pub calls_on : {K : Type 0} → ℕ → Knowledge (State K) SharedEvent SharedOutcome

@@ -24,7 +24,7 @@ ghost use Rattle.volume_machine.specs.Answers.{Tagged};
 ghost use Rattle.volume_machine.specs.Seals.{Seals};
 ghost use Rattle.volume_machine.specs.States.{State};
 ghost use Rattle.volume_machine.specs.declared.keys.Keys.{Keys};
-ghost use Rattle.zone_events.specs.Readings.{reading_of};
+ghost use Rattle.hotzone.specs.ZoneEvents.Readings.{reading_of};
 
 use cipher_laws::SectorCipher;
 

@@ -9,7 +9,7 @@ ghost use Rattle.volume_machine.specs.Seals.{seals_of};
 ghost use Rattle.volume_machine.specs.States.{open_at};
 ghost use Rattle.volume_machine.specs.WorkSteps.{WorkStep};
 ghost use Rattle.volume_core.specs.WorkerLoop.Telling.{converted_in};
-ghost use Rattle.zone_events.specs.Readings.{reading_of};
+ghost use Rattle.hotzone.specs.ZoneEvents.Readings.{reading_of};
 
 use crate::asking::{SharedEvent, SharedOutcome, WorkDone};
 use crate::calling::{LaneCall, make_call};

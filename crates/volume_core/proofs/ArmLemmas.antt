@@ -10,7 +10,7 @@ use Rattle.hotzone.specs.Promises.{seals_in}
 use Rattle.hotzone.specs.Workers.{HasKeys, IsNew, MapsFit, first_call}
 use Rattle.hotzone.specs.declared.worker.Worker.{Worker}
 use Rattle.sector_disk.specs.JoinedDisks.Counts.{HasSizes}
-use Rattle.luks_json.specs.declared.meta.Parts.{Parts}
+use Rattle.luks_meta.specs.declared.meta.Parts.{Parts}
 use Rattle.luks_rules.specs.declared.shape.Progress.{Progress}
 use Rattle.luks_store.specs.Devices.{header_room}
 use Rattle.luks_store.specs.declared.loaded.Stored.{Stored}
@@ -25,11 +25,11 @@ use Rattle.volume_machine.specs.Courses.{Courses}
 use Rattle.volume_machine.specs.Seals.{KeysFit}
 use Rattle.volume_machine.specs.Works.{converting, resting}
 use Rattle.volume_machine.specs.declared.keys.Keys.{Keys}
-use Rattle.zone_events.specs.Heads.{header_on}
-use Rattle.zone_events.specs.Holding.{IsKept, ZonesBeginInOrder}
-use Rattle.zone_events.specs.Promises.{IsLaneFree}
-use Rattle.zone_events.specs.Readings.{reading_of}
-use Rattle.zone_events.specs.Works.{layout_for, layout_of, work_by, work_of}
+use Rattle.hotzone.specs.ZoneEvents.Heads.{header_on}
+use Rattle.hotzone.specs.ZoneEvents.Holding.{IsKept, ZonesBeginInOrder}
+use Rattle.hotzone.specs.ZoneEvents.Promises.{IsLaneFree}
+use Rattle.hotzone.specs.ZoneEvents.Readings.{reading_of}
+use Rattle.hotzone.specs.ZoneEvents.Works.{layout_for, layout_of, work_by, work_of}
 
 -- ---- two maps of one header have the same blocks, at the same places
 record AreAlike (one other : Map) : Type 0 where

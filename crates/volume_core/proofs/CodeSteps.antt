@@ -24,7 +24,7 @@ use Rattle.volume_core.specs.Volumes.{IsVolume}
 use Rattle.volume_core.specs.Zones.{FitsZone, IsLed}
 use Rattle.volume_laws.proofs.VolumesKept.{event_in_order}
 use Rattle.volume_machine.specs.Events.{lane_of}
-use Rattle.zone_events.specs.Readings.{reading_of}
+use Rattle.hotzone.specs.ZoneEvents.Readings.{reading_of}
 
 -- a lane that has an operation is one of the volume's
 pub has-lane : (lanes : List (Option Open)) (lane : ℕ) (o : Open) → open_at lanes lane ≡ Some o →

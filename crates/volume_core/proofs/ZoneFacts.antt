@@ -38,9 +38,9 @@ use Rattle.volume_machine.specs.Working.{HoldsZone, IsWorkers}
 use Rattle.volume_machine.specs.Works.{complete, resting}
 use Rattle.volume_machine.specs.declared.keys.Keys.{Keys}
 use Rattle.volume_machine.specs.declared.open.Open.{Open as Operation}
-use Rattle.zone_events.specs.Holding.{IsKept, IsOnDisk}
-use Rattle.zone_events.specs.Promises.{IsLater, IsOf}
-use Rattle.zone_events.specs.Works.{between, layout_of, work_by, work_of}
+use Rattle.hotzone.specs.ZoneEvents.Holding.{IsKept, IsOnDisk}
+use Rattle.hotzone.specs.ZoneEvents.Promises.{IsLater, IsOf}
+use Rattle.hotzone.specs.ZoneEvents.Works.{between, layout_of, work_by, work_of}
 
 -- ---- the calls: a zone begins, or the finish; the end is under way; a zone is at hand
 data Kind (next : NextCall) : Type 0 where

@@ -39,11 +39,11 @@ use Rattle.volume_machine.specs.WorkSteps.{AreOn, Frees, WorkStep}
 use Rattle.volume_machine.specs.Works.{Work}
 use Rattle.volume_machine.specs.declared.keys.Keys.{Keys}
 use Rattle.volume_machine.specs.declared.open.Open.{Open as Operation}
-use Rattle.zone_events.specs.Holding.{IsKept, MapsFollow}
-use Rattle.zone_events.specs.Promises.{IsOf, IsSameGround, Leaves, StepsAreWorks, breaks}
-use Rattle.zone_events.specs.Promises.{StepsKeepGround, StepsKeepParts, StepsLeaveNew}
-use Rattle.zone_events.specs.Readings.{reading_of}
-use Rattle.zone_events.specs.Works.{between, layout_of, map_in, work_by, work_of}
+use Rattle.hotzone.specs.ZoneEvents.Holding.{IsKept, MapsFollow}
+use Rattle.hotzone.specs.ZoneEvents.Promises.{IsOf, IsSameGround, Leaves, StepsAreWorks, breaks}
+use Rattle.hotzone.specs.ZoneEvents.Promises.{StepsKeepGround, StepsKeepParts, StepsLeaveNew}
+use Rattle.hotzone.specs.ZoneEvents.Readings.{reading_of}
+use Rattle.hotzone.specs.ZoneEvents.Works.{between, layout_of, map_in, work_by, work_of}
 
 -- ---- maps of the same blocks
 pub same-blocks : {C : Type 0} (w : Worker C) (next : NextCall) (map : Map) → IsMapBy w next map

@@ -23,9 +23,9 @@ use Rattle.volume_machine.specs.WorkSteps.{Frees, WorkStep, ends, leaves_blocks,
 use Rattle.volume_machine.specs.Works.{Work}
 use Rattle.volume_machine.specs.declared.keys.Keys.{Keys}
 use Rattle.volume_machine.specs.declared.open.Open.{Open as Operation}
-use Rattle.zone_events.specs.Heads.{header_on}
-use Rattle.zone_events.specs.Readings.{reading_of}
-use Rattle.zone_events.specs.Works.{layout_of, work_of}
+use Rattle.hotzone.specs.ZoneEvents.Heads.{header_on}
+use Rattle.hotzone.specs.ZoneEvents.Readings.{reading_of}
+use Rattle.hotzone.specs.ZoneEvents.Works.{layout_of, work_of}
 
 module _ {C : Type 0} (sector : C → ℕ) (seal unseal : C → ℕ → List ℕ → List ℕ) (w : Worker C)
     (old : State (Keys C)) (at : IsAt sector seal unseal w old) (lane : ℕ)

@@ -33,10 +33,10 @@ use Rattle.volume_machine.specs.Works.{wanted}
 use Rattle.volume_machine.specs.declared.keys.Keys.{Keys}
 use Rattle.volume_machine.specs.declared.open.Open.{Open as Operation}
 use Rattle.volume_laws.specs.Converting.{IsInOrder}
-use Rattle.zone_events.specs.Heads.{header_on}
-use Rattle.zone_events.specs.Holding.{ZonesArePlanned}
-use Rattle.zone_events.specs.Readings.{reading_of}
-use Rattle.zone_events.specs.Works.{layout_of, unnamed}
+use Rattle.hotzone.specs.ZoneEvents.Heads.{header_on}
+use Rattle.hotzone.specs.ZoneEvents.Holding.{ZonesArePlanned}
+use Rattle.hotzone.specs.ZoneEvents.Readings.{reading_of}
+use Rattle.hotzone.specs.ZoneEvents.Works.{layout_of, unnamed}
 
 -- ---- all stays but the table of locks and the lanes
 pub record IsBeside {K : Type 0} (old new : State K) : Type 0 where

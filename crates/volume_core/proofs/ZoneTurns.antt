@@ -33,7 +33,7 @@ use Rattle.std.specs.Prelude.{Bool, true, false, length, nat_lt}
 use Rattle.volume_core.specs.Zones.{FitsCall, IsEnded}
 use Rattle.volume_machine.specs.Seals.{Seals}
 use Rattle.volume_machine.specs.declared.open.Open.{Open as Operation}
-use Rattle.zone_events.specs.Promises.{IsLater}
+use Rattle.hotzone.specs.ZoneEvents.Promises.{IsLater}
 
 -- ---- calls of a zone
 hand-save : (site : Site) (done : ℕ) (headers : Headers) → IsAtHand (after_save site done headers)

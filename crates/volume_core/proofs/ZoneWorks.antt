@@ -38,11 +38,12 @@ use Rattle.volume_machine.specs.Seals.{seals_of}
 use Rattle.volume_machine.specs.WorkSteps.{WorkStep}
 use Rattle.volume_machine.specs.declared.keys.Keys.{Keys}
 use Rattle.volume_machine.specs.declared.open.Open.{Open as Operation}
-use Rattle.zone_events.specs.Holding.{IsKept, MapsFollow, SizesAreTold, ZonesArePlanned}
-use Rattle.zone_events.specs.Promises.{breaks, StepsAreWorks, StepsKeepGround, StepsKeepParts}
-use Rattle.zone_events.specs.Promises.{StepsLeaveNew}
-use Rattle.zone_events.specs.Readings.{reading_of}
-use Rattle.zone_events.specs.Works.{layout_of}
+use Rattle.hotzone.specs.ZoneEvents.Holding.{IsKept, MapsFollow, SizesAreTold, ZonesArePlanned}
+use Rattle.hotzone.specs.ZoneEvents.Promises.{breaks, StepsAreWorks, StepsKeepGround}
+use Rattle.hotzone.specs.ZoneEvents.Promises.{StepsKeepParts}
+use Rattle.hotzone.specs.ZoneEvents.Promises.{StepsLeaveNew}
+use Rattle.hotzone.specs.ZoneEvents.Readings.{reading_of}
+use Rattle.hotzone.specs.ZoneEvents.Works.{layout_of}
 
 -- what a call has come to
 pub record HasDone {C : Type 0} (sector : C → ℕ) (seal unseal : C → ℕ → List ℕ → List ℕ)

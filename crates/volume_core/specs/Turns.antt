@@ -28,7 +28,7 @@ use Rattle.volume_machine.specs.States.{LaneBecomes, open_at}
 use Rattle.volume_machine.specs.declared.ask.Ask.{Ask}
 use Rattle.volume_machine.specs.declared.ask.Ask.TheVariants.{Write}
 use Rattle.volume_machine.specs.declared.open.Open.{Open}
-use Rattle.zone_events.specs.Promises.{breaks}
+use Rattle.hotzone.specs.ZoneEvents.Promises.{breaks}
 
 -- ---- a zone that was given up begins anew
 abbrev pub MayRenew : Option Halt → Type 0

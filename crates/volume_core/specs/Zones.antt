@@ -24,10 +24,10 @@ use Rattle.volume_machine.specs.WorkSteps.{was_broken}
 use Rattle.volume_machine.specs.Works.{Work, converting, resting}
 use Rattle.volume_machine.specs.declared.keys.Keys.{Keys}
 use Rattle.volume_machine.specs.declared.open.Open.{Open}
-use Rattle.zone_events.specs.Promises.{IsLater, answer_of}
-use Rattle.zone_events.specs.Readings.{reading_of}
-use Rattle.zone_events.specs.Heads.{header_on}
-use Rattle.zone_events.specs.Works.{layout_for, layout_of, work_of}
+use Rattle.hotzone.specs.ZoneEvents.Promises.{IsLater, answer_of}
+use Rattle.hotzone.specs.ZoneEvents.Readings.{reading_of}
+use Rattle.hotzone.specs.ZoneEvents.Heads.{header_on}
+use Rattle.hotzone.specs.ZoneEvents.Works.{layout_for, layout_of, work_of}
 
 -- ---- what is shown
 -- the work of a zone, where there is one

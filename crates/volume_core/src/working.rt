@@ -17,14 +17,17 @@ ghost use Rattle.volume_machine.specs.Seals.{seals_of};
 ghost use Rattle.volume_machine.specs.States.{LaneBecomes, open_at};
 ghost use Rattle.volume_machine.specs.WorkSteps.{WorkStep};
 ghost use Rattle.volume_machine.specs.declared.open.Open.{Open};
-ghost use Rattle.zone_events.specs.Promises.{IsLaneFree, breaks};
-ghost use Rattle.zone_events.specs.Readings.{reading_of};
+ghost use Rattle.hotzone.specs.ZoneEvents.Promises.{IsLaneFree, breaks};
+ghost use Rattle.hotzone.specs.ZoneEvents.Readings.{reading_of};
 
 use crate::answers::Worked;
 use crate::volume::{Volume, lock};
 use base_terms::BlockRange;
 use cipher_laws::SectorCipher;
-use hotzone::{Halt, Zone};
+use hotzone::{
+    Halt, Zone, maps_follow, sizes_are_told, steps_are_works, zones_are_planned,
+    zones_begin_in_order,
+};
 use luks_store::Loaded;
 use range_lock::{Standing, Table};
 use sector_disk::Disk;
@@ -33,9 +36,6 @@ use std::alloc::{AllocError, Global};
 use std::mem;
 use std::thread::Threads;
 use volume_machine::{Ask, Open, set_lane};
-use zone_events::{
-    maps_follow, sizes_are_told, steps_are_works, zones_are_planned, zones_begin_in_order,
-};
 
 // What the worker does next.
 #[derive(Clone, Copy)]

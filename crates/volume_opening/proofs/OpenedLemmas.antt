@@ -6,7 +6,7 @@ use Rattle.sector_disk.specs.DiskViews.Parts.{AreBlocks, block_at, value_in}
 use Rattle.header_report.proofs.ExamineLemmas.{alone_values, whole_front}
 use Rattle.header_report.specs.Examinations.{sizes_alone}
 use Rattle.sector_disk.specs.JoinedDisks.Joined.{Joint, joined_disk}
-use Rattle.luks_json.specs.declared.meta.Parts.{Parts}
+use Rattle.luks_meta.specs.declared.meta.Parts.{Parts}
 use Rattle.luks_rules.specs.Idles.{idle_of}
 use Rattle.luks_rules.specs.declared.extents.Extent.{Extent}
 use Rattle.luks_rules.specs.declared.idle.Idle.{Idle}

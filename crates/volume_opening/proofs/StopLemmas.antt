@@ -7,9 +7,9 @@ use Rattle.std.proofs.lemmas.List.{drop-take, take-take}
 use Rattle.base_terms.specs.Blocks.{joined, lengths}
 use Rattle.base_terms.specs.declared.disk_sizes.Sizes.{Sizes}
 use Rattle.sector_disk.specs.DiskViews.Parts.{block_at, cell_in, value_in}
-use Rattle.luks_json.specs.declared.digest.Digest.{Digest}
-use Rattle.luks_json.specs.declared.meta.Parts.{Parts}
-use Rattle.luks_json.specs.declared.segment.Encryption.{Encryption}
+use Rattle.luks_meta.specs.declared.digest.Digest.{Digest}
+use Rattle.luks_meta.specs.declared.meta.Parts.{Parts}
+use Rattle.luks_meta.specs.declared.segment.Encryption.{Encryption}
 use Rattle.luks_rules.specs.Areas.{areas_begin, areas_end, header_bytes}
 use Rattle.luks_rules.specs.References.{value_at}
 use Rattle.luks_rules.specs.States.{IsSound as HasRules}

@@ -3,14 +3,14 @@ use Rattle.std.specs.Prelude.{ℕ, ◌≡◌, ◌<◌, ◌≤◌, List, length, 
 use Rattle.base_terms.specs.declared.disk_sizes.Sizes.{Sizes}
 use Rattle.header_report.specs.Examinations.{sizes_alone}
 use Rattle.sector_disk.specs.JoinedDisks.Joined.{Joint, begun_joint, joined_disk, nothing}
-use Rattle.luks_json.specs.declared.digest.Digest.{Digest}
+use Rattle.luks_meta.specs.declared.digest.Digest.{Digest}
 use Rattle.luks_rules.specs.References.{value_at}
 use Rattle.luks_rules.specs.States.{IsSound as AreSound}
 use Rattle.luks_rules.specs.Idles.{idle_of}
 use Rattle.luks_rules.specs.declared.idle.Idle.{Idle}
-use Rattle.luks_json.specs.declared.meta.Parts.{Parts}
+use Rattle.luks_meta.specs.declared.meta.Parts.{Parts}
 use Rattle.luks_slots.specs.Unlocks.{IsRight}
-use Rattle.luks_json.specs.declared.segment.Encryption.{Encryption}
+use Rattle.luks_meta.specs.declared.segment.Encryption.{Encryption}
 use Rattle.luks_store.specs.Devices.{KeepsBytes}
 use Rattle.luks_store.specs.Loads.{stored_in}
 use Rattle.luks_store.specs.declared.loaded.Stored.{Stored}

@@ -4,8 +4,8 @@ use Rattle.std.specs.Prelude.{Err, IsSome, option_map}
 use Rattle.header_report.specs.Examinations.{TellsFault, sizes_alone}
 use Rattle.sector_disk.specs.JoinedDisks.Joined.{Joint, in_front, joined_disk, told_of_used}
 use Rattle.base_terms.specs.declared.disk_sizes.Sizes.{Sizes}
-use Rattle.luks_json.specs.declared.digest.Digest.{Digest}
-use Rattle.luks_json.specs.declared.meta.Parts.{Parts}
+use Rattle.luks_meta.specs.declared.digest.Digest.{Digest}
+use Rattle.luks_meta.specs.declared.meta.Parts.{Parts}
 use Rattle.luks_rules.specs.Idles.{idle_of}
 use Rattle.luks_rules.specs.References.{value_at}
 use Rattle.luks_rules.specs.Segments.{in_progress}

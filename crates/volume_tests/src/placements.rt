@@ -3,7 +3,8 @@ ghost use Rattle.sector_disk.specs.Geometry.{IsDisk};
 
 use crate::same::same;
 use base_terms::Sizes;
-use luks_json::Meta;
+use luks_json::JsonText;
+use luks_meta::Meta;
 use luks_rules::check;
 use reenc_meta::place_idle;
 use std::alloc::{AllocError, Global};

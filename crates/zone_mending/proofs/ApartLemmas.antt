@@ -9,7 +9,8 @@ use Rattle.luks_store.specs.Loads.{IsStored}
 use Rattle.luks_store.specs.declared.loaded.Stored.{Stored}
 use Rattle.sector_disk.specs.Devices.{Device}
 use Rattle.segment_map.specs.declared.map.Map.{Map}
-use Rattle.zone_events.proofs.GroundLemmas.{area-between, guard-kept, is-converting, saved-room}
+use Rattle.hotzone.proofs.ZoneEvents.GroundLemmas.{area-between, guard-kept, is-converting}
+use Rattle.hotzone.proofs.ZoneEvents.GroundLemmas.{saved-room}
 use Rattle.zone_mending.proofs.OpenZoneLemmas.{count-open, saved-is}
 use Rattle.zone_mending.specs.Known.{mended_zone, zone_in}
 use Rattle.zone_mending.specs.OpenZones.{IsOpenZone}

@@ -13,11 +13,11 @@ use Rattle.hotzone.specs.Workers.{HasKeys, MapsFit, MayGoOn}
 use Rattle.hotzone.specs.declared.site.Site.{Site}
 use Rattle.hotzone.specs.declared.worker.NextHeader.{NextHeader}
 use Rattle.hotzone.specs.declared.worker.ZoneFault.{ZoneFault}
-use Rattle.luks_json.specs.declared.meta.Parts.{Parts}
-use Rattle.luks_json.specs.declared.reencrypt.Direction.{Direction}
-use Rattle.luks_json.specs.declared.reencrypt.Direction.TheVariants.{Forward, Backward}
-use Rattle.luks_json.specs.declared.reencrypt.Resilience.{Resilience}
-use Rattle.luks_json.specs.declared.reencrypt.Resilience.TheVariants.{Journal, Checksum, Datashift}
+use Rattle.luks_meta.specs.declared.meta.Parts.{Parts}
+use Rattle.luks_meta.specs.declared.reencrypt.Direction.{Direction}
+use Rattle.luks_meta.specs.declared.reencrypt.Direction.TheVariants.{Forward, Backward}
+use Rattle.luks_meta.specs.declared.reencrypt.Resilience.{Resilience}
+use Rattle.luks_meta.specs.declared.reencrypt.Resilience.TheVariants.{Journal, Checksum, Datashift}
 use Rattle.luks_rules.specs.Shapes.{progress_of}
 use Rattle.luks_rules.specs.States.{IsSound}
 use Rattle.luks_rules.specs.declared.plan.Plan.{Plan}

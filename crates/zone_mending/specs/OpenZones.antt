@@ -6,7 +6,7 @@ use Rattle.hotzone.specs.declared.site.Site.{Site}
 use Rattle.hotzone.specs.declared.worker.NextHeader.{NextHeader}
 use Rattle.hotzone.specs.declared.worker.ZoneFault.{ZoneFault}
 use Rattle.hotzone.specs.declared.worker.ZoneFault.TheVariants as faults
-use Rattle.luks_json.specs.declared.meta.Parts.{Parts}
+use Rattle.luks_meta.specs.declared.meta.Parts.{Parts}
 use Rattle.luks_rules.specs.Shapes.{progress_of}
 use Rattle.luks_rules.specs.declared.shape.Progress.{Progress}
 use Rattle.luks_store.specs.declared.loaded.Stored.{Stored}

@@ -12,7 +12,7 @@ ghost use Rattle.zone_mending.specs.OpenZones.{HasZone, IsMoved, IsNotMade, IsOp
 
 use crate::mender::MendFault;
 use hotzone::{Guard, NextHeader, Site, ZoneFault, next_site, turn_header};
-use luks_json::Resilience;
+use luks_meta::Resilience;
 use luks_rules::Progress;
 use luks_store::Loaded;
 use reenc_meta::Reenc;

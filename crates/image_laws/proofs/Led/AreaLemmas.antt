@@ -25,7 +25,7 @@ use Rattle.image_laws.proofs.Started.AgreeLemmas.{IsReadAlike, all-alike}
 use Rattle.image_laws.proofs.Started.AtomLemmas.{atoms-agree}
 use Rattle.image_laws.proofs.Started.KeyLemmas.{among-areas}
 use Rattle.image_laws.specs.Started.Gaps.{AgreeBut, key_areas}
-use Rattle.zone_events.proofs.GroundLemmas.{areas-before}
+use Rattle.hotzone.proofs.ZoneEvents.GroundLemmas.{areas-before}
 use Rattle.image_laws.proofs.Led.BytesLemmas.{HasRest}
 
 -- whole atoms

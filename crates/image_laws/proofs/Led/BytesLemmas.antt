@@ -11,7 +11,7 @@ use Rattle.sector_disk.specs.DiskViews.Views.{IsOutside}
 use Rattle.crash_laws.specs.HotZones.Standing.{Recovers}
 use Rattle.crash_laws.specs.HotZones.Zones.{Hotzone, Texts}
 use Rattle.luks_store.specs.Copying.Meanings.{header_reader}
-use Rattle.luks_json.specs.declared.meta.Parts.{Parts}
+use Rattle.luks_meta.specs.declared.meta.Parts.{Parts}
 use Rattle.luks_rules.specs.Shapes.{progress_of}
 use Rattle.luks_rules.specs.States.{IsSound}
 use Rattle.luks_rules.specs.declared.shape.Progress.{Progress}

@@ -10,7 +10,7 @@ use Rattle.crash_laws.specs.HotZones.Standing.{Recovers}
 use Rattle.crash_laws.specs.HotZones.Zones.{Texts}
 use Rattle.crash_laws.specs.HotZones.Zones.{Resilience as Guard}
 use Rattle.luks_store.specs.Copying.Meanings.{header_reader, meaning_of}
-use Rattle.luks_json.specs.declared.meta.Parts.{Parts}
+use Rattle.luks_meta.specs.declared.meta.Parts.{Parts}
 use Rattle.luks_rules.specs.Shapes.{progress_of}
 use Rattle.luks_rules.specs.declared.shape.Progress.{Progress}
 use Rattle.luks_rules.specs.declared.valid.Checked.{Checked}

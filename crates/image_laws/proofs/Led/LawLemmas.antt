@@ -29,7 +29,7 @@ use Rattle.reenc_recovery.proofs.RepairTableLemmas.{layout_of}
 use Rattle.sector_disk.specs.Cells.{Cell, content, synced}
 use Rattle.sector_disk.specs.Devices.{Device}
 use Rattle.sector_disk.specs.Steps.{Told}
-use Rattle.zone_events.proofs.GroundLemmas.{one-progress}
+use Rattle.hotzone.proofs.ZoneEvents.GroundLemmas.{one-progress}
 use Rattle.image_laws.proofs.Led.BytesLemmas.{HasRest, bytes-moved}
 use Rattle.image_laws.proofs.Led.ContentLemmas.{ClosesBy}
 use Rattle.image_laws.proofs.Led.EndLemmas.{StandsInFront, certain-end, holds-next, last-synced}

@@ -5,8 +5,8 @@ use Rattle.std.proofs.Common.{refl, sym, ◌∙◌, ap, subst, arith}
 use Rattle.base_terms.specs.declared.disk_sizes.Sizes.{Sizes}
 use Rattle.sector_disk.specs.DiskViews.Parts.{AreBlocks, block_at, value_in}
 use Rattle.crash_laws.specs.HotZones.Zones.{Hotzone, Texts}
-use Rattle.luks_json.specs.declared.reencrypt.Direction.{Direction}
-use Rattle.luks_json.specs.declared.reencrypt.Direction.TheVariants.{Backward, Forward}
+use Rattle.luks_meta.specs.declared.reencrypt.Direction.{Direction}
+use Rattle.luks_meta.specs.declared.reencrypt.Direction.TheVariants.{Backward, Forward}
 use Rattle.luks_rules.specs.Plans.{blocks_in}
 use Rattle.luks_rules.specs.declared.plan.Plan.{Plan}
 use Rattle.luks_rules.specs.declared.shape.Progress.{Progress}

@@ -18,7 +18,7 @@ use Rattle.crash_laws.specs.HotZones.Standing.{side_before}
 use Rattle.crash_laws.specs.HotZones.Zones.{Hotzone, Phase, Texts, datashift, from_of}
 use Rattle.crash_laws.specs.HotZones.Zones.{to_of}
 use Rattle.luks_store.specs.Copying.Meanings.{header_reader}
-use Rattle.luks_json.specs.declared.meta.Parts.{Parts}
+use Rattle.luks_meta.specs.declared.meta.Parts.{Parts}
 use Rattle.luks_rules.specs.Shapes.{progress_of}
 use Rattle.luks_rules.specs.States.{IsSound}
 use Rattle.luks_rules.specs.declared.extents.Extent.{Extent}

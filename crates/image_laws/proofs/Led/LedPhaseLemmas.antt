@@ -11,8 +11,8 @@ use Rattle.crash_laws.specs.HotZones.Zones.{Hotzone, Phase, checksum, datashift,
 use Rattle.crash_laws.specs.HotZones.Zones.{moving, opening, saving, shifting, to_of, turning, writing}
 use Rattle.crash_laws.specs.HotZones.Zones.{Resilience as Guard}
 use Rattle.hotzone.proofs.MadeLemmas.{config-on}
-use Rattle.luks_json.specs.declared.config.Config.{Config}
-use Rattle.luks_json.specs.declared.meta.Parts.{Parts}
+use Rattle.luks_meta.specs.declared.config.Config.{Config}
+use Rattle.luks_meta.specs.declared.meta.Parts.{Parts}
 use Rattle.luks_rules.specs.Shapes.{progress_of}
 use Rattle.luks_rules.specs.declared.extents.Extent.{Extent}
 use Rattle.luks_rules.specs.declared.plan.Plan.{Plan}

@@ -2,8 +2,8 @@
 -- other one is on the side that it was on.
 use Rattle.std.proofs.Common.{◌≡◌, ◌⊎◌, inl, inr, ℕ, zero, suc, ◌+◌, ◌-◌, ◌<◌, ◌≤◌, List, ◌++◌}
 use Rattle.std.proofs.Common.{replicate, slice_get, refl, sym, ◌∙◌, ap, arith}
-use Rattle.luks_json.specs.declared.reencrypt.Direction.{Direction}
-use Rattle.luks_json.specs.declared.reencrypt.Direction.TheVariants.{Backward, Forward}
+use Rattle.luks_meta.specs.declared.reencrypt.Direction.{Direction}
+use Rattle.luks_meta.specs.declared.reencrypt.Direction.TheVariants.{Backward, Forward}
 use Rattle.luks_rules.specs.Plans.{blocks_in}
 use Rattle.luks_rules.specs.declared.plan.Plan.{Plan}
 use Rattle.image_laws.proofs.Opened.TurnLemmas.{LiesBeside, LiesIn, side_by}

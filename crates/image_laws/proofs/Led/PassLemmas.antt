@@ -7,9 +7,9 @@ use Rattle.std.specs.List.{All, list_all}
 use Rattle.std.specs.Option.{IsSome}
 use Rattle.std.specs.Prelude.{option_and_then}
 use Rattle.base_terms.specs.declared.disk_sizes.Sizes.{Sizes}
-use Rattle.luks_json.specs.declared.digest.Digest.{Digest}
-use Rattle.luks_json.specs.declared.meta.Parts.{Parts}
-use Rattle.luks_json.specs.declared.segment.Encryption.{Encryption}
+use Rattle.luks_meta.specs.declared.digest.Digest.{Digest}
+use Rattle.luks_meta.specs.declared.meta.Parts.{Parts}
+use Rattle.luks_meta.specs.declared.segment.Encryption.{Encryption}
 use Rattle.luks_rules.specs.References.{lists, value_at}
 use Rattle.luks_rules.specs.Shapes.{have_two_digests}
 use Rattle.luks_rules.specs.Shapes.{may_open, progress_of}
@@ -22,7 +22,7 @@ use Rattle.luks_slots.specs.Slots.{fits as fits_segments}
 use Rattle.luks_slots.specs.Slots.{takes_key}
 use Rattle.luks_slots.specs.Unlocks.{key_of, or_else}
 use Rattle.luks_slots.specs.Unlocks.{first_key}
-use Rattle.luks_json.specs.declared.keyslot.Priority.TheVariants.{High, Normal}
+use Rattle.luks_meta.specs.declared.keyslot.Priority.TheVariants.{High, Normal}
 use Rattle.reenc_meta.specs.Layouts.{laid_out_by, listed_by, progress_at}
 use Rattle.reenc_meta.specs.Moves.{IsGoneTo}
 use Rattle.reenc_meta.specs.Runs.{runs_of, sides_of}

@@ -11,10 +11,10 @@ use Rattle.hotzone.specs.Sites.{saved_count, start_by}
 use Rattle.hotzone.specs.Steps.{resealed}
 use Rattle.hotzone.specs.declared.site.Site.{Site}
 use Rattle.luks_store.specs.Copying.Meanings.{header_reader, meaning_of}
-use Rattle.luks_json.specs.declared.reencrypt.Direction.{Direction as Way}
-use Rattle.luks_json.specs.declared.reencrypt.Direction.TheVariants.{Backward, Forward}
-use Rattle.luks_json.specs.declared.reencrypt.Resilience.{Resilience}
-use Rattle.luks_json.specs.declared.reencrypt.Resilience.TheVariants.{Checksum, Datashift, Journal}
+use Rattle.luks_meta.specs.declared.reencrypt.Direction.{Direction as Way}
+use Rattle.luks_meta.specs.declared.reencrypt.Direction.TheVariants.{Backward, Forward}
+use Rattle.luks_meta.specs.declared.reencrypt.Resilience.{Resilience}
+use Rattle.luks_meta.specs.declared.reencrypt.Resilience.TheVariants.{Checksum, Datashift, Journal}
 use Rattle.luks_rules.specs.Areas.{areas_begin}
 use Rattle.luks_rules.specs.declared.plan.Plan.{Plan}
 use Rattle.luks_rules.specs.declared.shape.Progress.{Progress}
@@ -30,7 +30,7 @@ use Rattle.reenc_meta.specs.Placements.{place_of}
 use Rattle.segment_map.specs.declared.Direction.{Direction}
 use Rattle.segment_map.specs.declared.Side.TheVariants.{New, Old}
 use Rattle.volume_machine.specs.Seals.{seals_of}
-use Rattle.zone_events.proofs.GroundLemmas.{one-progress, same-place}
+use Rattle.hotzone.proofs.ZoneEvents.GroundLemmas.{one-progress, same-place}
 use Rattle.image_laws.proofs.Led.KeyLemmas.{same-opened, same-sealed}
 use Rattle.image_laws.specs.Led.Keys.{AreCiphersOf}
 use Rattle.volume_machine.specs.Saved.{saved_atoms}

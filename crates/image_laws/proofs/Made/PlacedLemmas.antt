@@ -8,8 +8,8 @@ use Rattle.luks_format.specs.Drawings.{Draw}
 use Rattle.luks_format.specs.Metadata.{config_for, digest_for, parts_for, parts_with, segment_for}
 use Rattle.luks_format.specs.Wishes.{FitsDisk}
 use Rattle.luks_format.specs.declared.wish.Wish.{Wish}
-use Rattle.luks_json.specs.declared.segment.Encryption.{Encryption}
-use Rattle.luks_json.specs.declared.segment.SegmentSize.TheVariants.{Dynamic}
+use Rattle.luks_meta.specs.declared.segment.Encryption.{Encryption}
+use Rattle.luks_meta.specs.declared.segment.SegmentSize.TheVariants.{Dynamic}
 use Rattle.luks_rules.specs.Areas.{main_bytes}
 use Rattle.luks_rules.specs.Extents.{digest_of}
 use Rattle.luks_rules.specs.Idles.{idle_of}

@@ -17,8 +17,8 @@ use Rattle.luks_format.proofs.SizeLemmas.{pages-whole, sector-some, sector-units
 use Rattle.luks_format.specs.Drawings.{drawn_by, drawn_len}
 use Rattle.luks_format.specs.Wishes.{FitsDisk, IsWish}
 use Rattle.luks_format.specs.declared.wish.Wish.{Wish}
-use Rattle.luks_json.specs.declared.digest.Digest.{Digest}
-use Rattle.luks_json.specs.declared.meta.Parts.{Parts}
+use Rattle.luks_meta.specs.declared.digest.Digest.{Digest}
+use Rattle.luks_meta.specs.declared.meta.Parts.{Parts}
 use Rattle.luks_rules.specs.Areas.{header_bytes, main_bytes}
 use Rattle.luks_slots.specs.Functions.{named_cipher}
 use Rattle.luks_slots.specs.Unlocks.{key_of}

@@ -12,11 +12,11 @@ use Rattle.sector_disk.specs.DiskViews.Parts.{block_at, value_in}
 use Rattle.crash_laws.specs.HotZones.Standing.{Recovers, TellsDigest, digest_at}
 use Rattle.crash_laws.specs.HotZones.Zones.{Hotzone, Texts, checksum, datashift, journal}
 use Rattle.crash_laws.specs.HotZones.Zones.{Resilience as Guard}
-use Rattle.luks_json.specs.declared.digest.Digest.{Digest}
-use Rattle.luks_json.specs.declared.keyslot.Keyslot.{Keyslot}
-use Rattle.luks_json.specs.declared.keyslot.Keyslot.TheVariants as keyslots
-use Rattle.luks_json.specs.declared.meta.Parts.{Parts}
-use Rattle.luks_json.specs.declared.segment.Encryption.{Encryption}
+use Rattle.luks_meta.specs.declared.digest.Digest.{Digest}
+use Rattle.luks_meta.specs.declared.keyslot.Keyslot.{Keyslot}
+use Rattle.luks_meta.specs.declared.keyslot.Keyslot.TheVariants as keyslots
+use Rattle.luks_meta.specs.declared.meta.Parts.{Parts}
+use Rattle.luks_meta.specs.declared.segment.Encryption.{Encryption}
 use Rattle.luks_rules.specs.Areas.{area_of, areas_begin, areas_end, areas_of}
 use Rattle.luks_rules.specs.Conversions.{conversion_by, conversion_of, conversions_of}
 use Rattle.luks_rules.specs.References.{value_at}

@@ -19,7 +19,7 @@ use Rattle.crash_laws.specs.HotZones.Zones.{Hotzone, Phase, ShowsZone, Texts, da
 use Rattle.crash_laws.specs.HotZones.Zones.{opening, saving, shifting, stage_of, turning, writing}
 use Rattle.crash_laws.specs.HotZones.Zones.{Resilience as Guard}
 use Rattle.luks_store.specs.Copying.Meanings.{header_reader}
-use Rattle.luks_json.specs.declared.meta.Parts.{Parts}
+use Rattle.luks_meta.specs.declared.meta.Parts.{Parts}
 use Rattle.luks_rules.specs.Shapes.{progress_of}
 use Rattle.luks_rules.specs.States.{IsSound}
 use Rattle.luks_rules.specs.declared.shape.Progress.{Progress}

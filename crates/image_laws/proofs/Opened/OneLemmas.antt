@@ -4,7 +4,7 @@ use Rattle.std.proofs.Common.{Ok, refl, sym, ◌∙◌, ap, subst, slice_get, ar
 use Rattle.std.proofs.lemmas.List.{ext_get_or}
 use Rattle.base_terms.specs.declared.disk_sizes.Sizes.{Sizes}
 use Rattle.sector_disk.specs.DiskViews.Parts.{block_at, value_in}
-use Rattle.luks_json.specs.declared.meta.Parts.{Parts}
+use Rattle.luks_meta.specs.declared.meta.Parts.{Parts}
 use Rattle.luks_rules.specs.Shapes.{progress_of}
 use Rattle.luks_rules.specs.declared.extents.Extent.{Extent}
 use Rattle.luks_rules.specs.declared.shape.Progress.{Progress}

@@ -7,14 +7,14 @@ use Rattle.std.specs.List.{All, AllByRecursion, cons_option, filter}
 use Rattle.std.specs.Option.{IsSome}
 use Rattle.std.specs.Prelude.{Contains, option_and_then, option_map}
 use Rattle.base_terms.specs.declared.disk_sizes.Sizes.{Sizes}
-use Rattle.luks_json.specs.declared.digest.Digest.{Digest}
-use Rattle.luks_json.specs.declared.keyslot.Keyslot.{Keyslot}
-use Rattle.luks_json.specs.declared.keyslot.Keyslot.TheVariants as keyslots
-use Rattle.luks_json.specs.declared.keyslot.Priority.{Priority as Rank}
-use Rattle.luks_json.specs.declared.keyslot.Priority.TheVariants.{High, Normal}
-use Rattle.luks_json.specs.declared.meta.Parts.{Parts}
-use Rattle.luks_json.specs.declared.segment.Encryption.{Encryption}
-use Rattle.luks_json.specs.declared.segment.Segment.{Segment}
+use Rattle.luks_meta.specs.declared.digest.Digest.{Digest}
+use Rattle.luks_meta.specs.declared.keyslot.Keyslot.{Keyslot}
+use Rattle.luks_meta.specs.declared.keyslot.Keyslot.TheVariants as keyslots
+use Rattle.luks_meta.specs.declared.keyslot.Priority.{Priority as Rank}
+use Rattle.luks_meta.specs.declared.keyslot.Priority.TheVariants.{High, Normal}
+use Rattle.luks_meta.specs.declared.meta.Parts.{Parts}
+use Rattle.luks_meta.specs.declared.segment.Encryption.{Encryption}
+use Rattle.luks_meta.specs.declared.segment.Segment.{Segment}
 use Rattle.luks_rules.specs.References.{lists, value_at}
 use Rattle.luks_rules.specs.States.{IsSound}
 use Rattle.luks_rules.specs.declared.areas.Area.{Area}
@@ -30,8 +30,8 @@ use Rattle.image_laws.specs.Sides.Keys.{AreOneSide, HasSameAtoms, SidesGiveTheir
 use Rattle.image_laws.proofs.Started.AgreeLemmas.{IsReadAlike}
 use Rattle.image_laws.proofs.Started.KeyLemmas.{AreAlike, among-areas, first-same}
 use Rattle.image_laws.specs.Started.Gaps.{key_area, key_areas}
-use Rattle.zone_events.specs.Tellings.{digest_on, for_one, is_listed, numbered, side_alone}
-use Rattle.zone_events.specs.Tellings.{whole_segment}
+use Rattle.hotzone.specs.ZoneEvents.Tellings.{digest_on, for_one, is_listed, numbered, side_alone}
+use Rattle.hotzone.specs.ZoneEvents.Tellings.{whole_segment}
 
 -- ---- a keyslot that isn't listed gives none
 module _ (m : Parts) (d : Digest) (image pass : List ℕ) (rank : Rank) where

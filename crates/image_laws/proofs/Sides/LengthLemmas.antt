@@ -5,9 +5,9 @@ use Rattle.std.proofs.Common.{Bool, true, false, refl, sym, ap, subst, cond}
 use Rattle.std.specs.List.{list_all}
 use Rattle.std.specs.Option.{IsSome}
 use Rattle.base_terms.specs.declared.disk_sizes.Sizes.{Sizes}
-use Rattle.luks_json.specs.declared.digest.Digest.{Digest}
-use Rattle.luks_json.specs.declared.meta.Parts.{Parts}
-use Rattle.luks_json.specs.declared.segment.Segment.{Segment}
+use Rattle.luks_meta.specs.declared.digest.Digest.{Digest}
+use Rattle.luks_meta.specs.declared.meta.Parts.{Parts}
+use Rattle.luks_meta.specs.declared.segment.Segment.{Segment}
 use Rattle.luks_rules.specs.Extents.{extent_of}
 use Rattle.luks_rules.specs.Idles.{idle_from, idle_of}
 use Rattle.luks_rules.specs.References.{lists, value_at}
@@ -19,8 +19,8 @@ use Rattle.luks_slots.specs.Slots.{fits, takes_key}
 use Rattle.reenc_meta.specs.Layouts.{whole_on}
 use Rattle.segment_map.specs.declared.Side.{Side}
 use Rattle.segment_map.specs.declared.Side.TheVariants.{New, Old, Zone}
-use Rattle.zone_events.proofs.GroundLemmas.{converting}
-use Rattle.zone_events.specs.Sides.{IsSideOf}
+use Rattle.hotzone.proofs.ZoneEvents.GroundLemmas.{converting}
+use Rattle.hotzone.specs.ZoneEvents.Sides.{IsSideOf}
 use Rattle.image_laws.proofs.Led.FitLemmas.{takes_each}
 use Rattle.image_laws.proofs.Led.PassLemmas.{new-length, old-length}
 

@@ -5,8 +5,8 @@ use Rattle.std.proofs.Common.{arith}
 use Rattle.std.proofs.lemmas.Bool.{ltb-false}
 use Rattle.std.proofs.lemmas.List.Elements.{All-cons, All-head, All-nil, All-weaker}
 use Rattle.std.specs.List.{All, cons_option, list_any}
-use Rattle.luks_json.specs.declared.keyslot.Keyslot.{Keyslot}
-use Rattle.luks_json.specs.declared.keyslot.Keyslot.TheVariants as keyslots
+use Rattle.luks_meta.specs.declared.keyslot.Keyslot.{Keyslot}
+use Rattle.luks_meta.specs.declared.keyslot.Keyslot.TheVariants as keyslots
 use Rattle.luks_rules.proofs.ShareLemmas.{shared}
 use Rattle.luks_rules.specs.Areas.{area_of, areas_end, areas_of, end_of}
 use Rattle.luks_rules.specs.Conversions.{conversion_by, conversion_of, conversions_of}

@@ -4,8 +4,8 @@ use Rattle.base_terms.specs.declared.disk_sizes.Sizes.{Sizes}
 use Rattle.json_members.proofs.ReadLemmas.{Right}
 use Rattle.luks_bin.specs.Copies.{text_of}
 use Rattle.luks_json.proofs.MetaLemmas.{meta_from_right}
-use Rattle.luks_json.specs.Metas.{IsMeta}
-use Rattle.luks_json.specs.declared.meta.Parts.{Parts}
+use Rattle.luks_meta.specs.Metas.{IsMeta}
+use Rattle.luks_meta.specs.declared.meta.Parts.{Parts}
 use Rattle.luks_rules.proofs.SoundLemmas.{sound}
 use Rattle.luks_rules.specs.Rules.{first_fault}
 use Rattle.luks_rules.specs.States.{IsSound}

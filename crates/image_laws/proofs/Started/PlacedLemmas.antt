@@ -4,10 +4,10 @@ use Rattle.std.proofs.Common.{List, [], ◌++◌, replicate, slice_get, Some, re
 use Rattle.std.proofs.Common.{arith}
 use Rattle.std.proofs.lemmas.List.{append-nil}
 use Rattle.base_terms.specs.declared.disk_sizes.Sizes.{Sizes}
-use Rattle.luks_json.specs.declared.reencrypt.Direction.{Direction}
-use Rattle.luks_json.specs.declared.reencrypt.Direction.TheVariants.{Forward, Backward}
-use Rattle.luks_json.specs.declared.reencrypt.Resilience.{Resilience}
-use Rattle.luks_json.specs.declared.reencrypt.Resilience.TheVariants.{Journal, Checksum, Datashift}
+use Rattle.luks_meta.specs.declared.reencrypt.Direction.{Direction}
+use Rattle.luks_meta.specs.declared.reencrypt.Direction.TheVariants.{Forward, Backward}
+use Rattle.luks_meta.specs.declared.reencrypt.Resilience.{Resilience}
+use Rattle.luks_meta.specs.declared.reencrypt.Resilience.TheVariants.{Journal, Checksum, Datashift}
 use Rattle.luks_rules.specs.Areas.{main_bytes}
 use Rattle.luks_rules.specs.Plans.{blocks_in}
 use Rattle.luks_rules.specs.declared.extents.Extent.{Extent}

@@ -5,8 +5,8 @@ use Rattle.crash_laws.specs.HeaderAreas.Headers.{Header}
 use Rattle.base_terms.specs.declared.disk_sizes.Sizes.{Sizes}
 use Rattle.crash_laws.specs.HotZones.Zones.{Hotzone, checksum, datashift, journal}
 use Rattle.crash_laws.specs.HotZones.Zones.{Resilience as Guard}
-use Rattle.luks_json.specs.declared.reencrypt.Resilience.{Resilience}
-use Rattle.luks_json.specs.declared.reencrypt.Resilience.TheVariants.{Checksum, Datashift, Journal}
+use Rattle.luks_meta.specs.declared.reencrypt.Resilience.{Resilience}
+use Rattle.luks_meta.specs.declared.reencrypt.Resilience.TheVariants.{Checksum, Datashift, Journal}
 use Rattle.luks_rules.specs.declared.shape.Progress.{Progress}
 use Rattle.reenc_meta.specs.Placements.{place_of}
 use Rattle.volume_machine.specs.Saved.{saved_atoms}

@@ -3,7 +3,7 @@ use Rattle.std.specs.Prelude.{ℕ, ◌≡◌, ◌+◌, ◌/◌, ◌<◌, ◌↔�
 use Rattle.std.specs.List.{All}
 use Rattle.base_terms.specs.declared.disk_sizes.Sizes.{Sizes}
 use Rattle.sector_disk.specs.DiskViews.Parts.{block_at}
-use Rattle.luks_json.specs.declared.meta.Parts.{Parts}
+use Rattle.luks_meta.specs.declared.meta.Parts.{Parts}
 use Rattle.luks_rules.specs.States.{IsSound}
 use Rattle.luks_rules.specs.declared.areas.Area.{Area}
 use Rattle.luks_rules.specs.declared.extents.Extent.{Extent}
@@ -11,8 +11,8 @@ use Rattle.reenc_recovery.specs.Keys.{IsKeyOf, key_for}
 use Rattle.sector_disk.specs.Geometry.{IsAtom}
 use Rattle.segment_map.specs.declared.Side.{Side}
 use Rattle.image_laws.specs.Started.Gaps.{key_areas}
-use Rattle.zone_events.specs.Sides.{IsSideOf}
-use Rattle.zone_events.specs.Tellings.{side_alone}
+use Rattle.hotzone.specs.ZoneEvents.Sides.{IsSideOf}
+use Rattle.hotzone.specs.ZoneEvents.Tellings.{side_alone}
 
 -- each atom of the area is in the one image what it is in the other
 abbrev pub HasSameAtoms : ℕ → List ℕ → List ℕ → Area → Type 0

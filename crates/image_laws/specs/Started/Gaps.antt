@@ -4,9 +4,9 @@ use Rattle.std.specs.Prelude.{take, drop, Option, Some, None, Ok}
 use Rattle.std.specs.List.{All, filter_map}
 use Rattle.base_terms.specs.declared.disk_sizes.Sizes.{Sizes}
 use Rattle.sector_disk.specs.DiskViews.Parts.{block_at}
-use Rattle.luks_json.specs.declared.keyslot.Keyslot.{Keyslot}
-use Rattle.luks_json.specs.declared.keyslot.Keyslot.TheVariants as keyslots
-use Rattle.luks_json.specs.declared.meta.Parts.{Parts}
+use Rattle.luks_meta.specs.declared.keyslot.Keyslot.{Keyslot}
+use Rattle.luks_meta.specs.declared.keyslot.Keyslot.TheVariants as keyslots
+use Rattle.luks_meta.specs.declared.meta.Parts.{Parts}
 use Rattle.luks_rules.specs.Areas.{areas_begin, areas_end, end_of}
 use Rattle.luks_rules.specs.Conversions.{conversions_of}
 use Rattle.luks_rules.specs.States.{IsSound}

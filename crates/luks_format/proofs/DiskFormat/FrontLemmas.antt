@@ -20,7 +20,7 @@ use Rattle.luks_format.specs.Drawings.{Draw, salt_len}
 use Rattle.luks_format.specs.Metadata.{config_for, keyslot_for, parts_with}
 use Rattle.luks_format.specs.Wishes.{FitsDisk, IsWish, areas_end_for}
 use Rattle.luks_format.specs.declared.wish.Wish.{Wish}
-use Rattle.luks_json.specs.declared.keyslot.Luks2.{Luks2}
+use Rattle.luks_meta.specs.declared.keyslot.Luks2.{Luks2}
 use Rattle.luks_rules.specs.Areas.{header_bytes, main_bytes}
 use Rattle.luks_slots.specs.NewSlots.{area_len, slot_for}
 use Rattle.sector_disk.specs.Devices.{Device}

@@ -7,8 +7,8 @@ use Rattle.luks_format.specs.declared.format_disk.volume.NewVolume.{NewVolume}
 use Rattle.luks_format.specs.Drawings.{AreDrawn, Draw, drawn_by, drawn_len, identifier_for}
 use Rattle.luks_format.specs.Metadata.{parts_for}
 use Rattle.luks_format.specs.declared.wish.Wish.{Wish}
-use Rattle.luks_json.specs.declared.keyslot.Luks2.{Luks2}
-use Rattle.luks_json.specs.declared.meta.Parts.{Parts}
+use Rattle.luks_meta.specs.declared.keyslot.Luks2.{Luks2}
+use Rattle.luks_meta.specs.declared.meta.Parts.{Parts}
 use Rattle.luks_rules.specs.Rules.{first_fault}
 use Rattle.luks_slots.specs.NewSlots.{IsSlotAt}
 use Rattle.luks_store.specs.Commits.{text_for}

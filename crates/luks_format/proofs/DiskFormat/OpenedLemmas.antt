@@ -23,11 +23,11 @@ use Rattle.luks_format.specs.Metadata.{digest_for, keyslot_for, parts_with, segm
 use Rattle.luks_format.specs.Wishes.{FitsDisk, IsWish}
 use Rattle.luks_format.specs.declared.wish.Wish.{Wish}
 use Rattle.luks_json.specs.Metas.{meta_from}
-use Rattle.luks_json.specs.declared.digest.Digest.{Digest}
-use Rattle.luks_json.specs.declared.keyslot.Keyslot.TheVariants as keyslots
-use Rattle.luks_json.specs.declared.keyslot.Luks2.{Luks2}
-use Rattle.luks_json.specs.declared.keyslot.Priority.TheVariants.{High, Normal}
-use Rattle.luks_json.specs.declared.meta.Parts.{Parts}
+use Rattle.luks_meta.specs.declared.digest.Digest.{Digest}
+use Rattle.luks_meta.specs.declared.keyslot.Keyslot.TheVariants as keyslots
+use Rattle.luks_meta.specs.declared.keyslot.Luks2.{Luks2}
+use Rattle.luks_meta.specs.declared.keyslot.Priority.TheVariants.{High, Normal}
+use Rattle.luks_meta.specs.declared.meta.Parts.{Parts}
 use Rattle.luks_rules.specs.Areas.{header_bytes}
 use Rattle.luks_rules.specs.References.{lists}
 use Rattle.luks_rules.specs.Rules.{first_fault}

@@ -8,7 +8,7 @@ use Rattle.luks_format.specs.Wishes.{areas_end_for, keyslots_size_for}
 use Rattle.luks_format.specs.declared.format_disk.fault.FormatFault.{FormatFault}
 use Rattle.luks_format.specs.declared.format_disk.fault.FormatFault.TheVariants as faults
 use Rattle.luks_format.specs.declared.wish.Wish.{Wish}
-use Rattle.luks_json.specs.declared.meta.Parts.{Parts}
+use Rattle.luks_meta.specs.declared.meta.Parts.{Parts}
 use Rattle.luks_rules.specs.Areas.{header_bytes}
 use Rattle.luks_slots.specs.NewSlots.{area_len}
 use Rattle.luks_store.specs.Commits.{text_for}

@@ -9,8 +9,8 @@ use Rattle.luks_store.specs.declared.header_copies.commit.Stage.TheVariants.{Beg
 use Rattle.luks_format.specs.Drawings.{AreDrawn, Draw, field_of, identifier_for}
 use Rattle.luks_format.specs.declared.wish.Wish.{Wish}
 use Rattle.luks_json.specs.Metas.{meta_from}
-use Rattle.luks_json.specs.declared.keyslot.Luks2.{Luks2}
-use Rattle.luks_json.specs.declared.meta.Parts.{Parts}
+use Rattle.luks_meta.specs.declared.keyslot.Luks2.{Luks2}
+use Rattle.luks_meta.specs.declared.meta.Parts.{Parts}
 use Rattle.luks_rules.specs.Rules.{first_fault}
 use Rattle.luks_slots.specs.NewSlots.{IsSlotAt}
 use Rattle.luks_store.specs.Commits.{HoldsText, IsNextStored, IsPrepared, header_before, text_for}

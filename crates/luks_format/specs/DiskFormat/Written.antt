@@ -11,7 +11,7 @@ use Rattle.sector_disk.specs.JoinedDisks.Counts.{HasSizes}
 use Rattle.luks_store.specs.Copying.Held.{primary_of, secondary_of}
 use Rattle.luks_format.specs.Wishes.{FitsDisk, IsWish}
 use Rattle.luks_format.specs.declared.wish.Wish.{Wish}
-use Rattle.luks_json.specs.declared.digest.Digest.{Digest}
+use Rattle.luks_meta.specs.declared.digest.Digest.{Digest}
 use Rattle.luks_rules.specs.References.{value_at}
 use Rattle.luks_slots.specs.Unlocks.{key_of, matches}
 use Rattle.luks_store.specs.Devices.{front_of}

@@ -17,7 +17,8 @@ use crate::{
     new_metadata_break_no_rule, split_drawn,
 };
 use base_terms::Sizes;
-use luks_json::Meta;
+use luks_json::JsonText;
+use luks_meta::Meta;
 use luks_slots::{Key, NewSlot, area_size, slot_at};
 use luks_store::header_copies::CommitError;
 use luks_store::{Commit, SlotCommit};

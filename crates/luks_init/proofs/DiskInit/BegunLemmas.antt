@@ -12,13 +12,13 @@ use Rattle.luks_init.specs.Wishes.{IsWish}
 use Rattle.luks_init.specs.declared.beginning.Begun.{Begun}
 use Rattle.luks_init.specs.declared.places.Places.{Places}
 use Rattle.luks_init.specs.declared.wish.Wish.{Wish}
-use Rattle.luks_json.specs.declared.config.Config.{Config}
-use Rattle.luks_json.specs.declared.names.Cipher.{Cipher}
-use Rattle.luks_json.specs.declared.digest.Digest.{Digest}
-use Rattle.luks_json.specs.declared.keyslot.Luks2.{Luks2}
-use Rattle.luks_json.specs.declared.meta.Parts.{Parts}
-use Rattle.luks_json.specs.declared.reencrypt.Mode.TheVariants.{Reencrypt}
-use Rattle.luks_json.specs.declared.segment.Segment.{Segment}
+use Rattle.luks_meta.specs.declared.config.Config.{Config}
+use Rattle.luks_meta.specs.declared.names.Cipher.{Cipher}
+use Rattle.luks_meta.specs.declared.digest.Digest.{Digest}
+use Rattle.luks_meta.specs.declared.keyslot.Luks2.{Luks2}
+use Rattle.luks_meta.specs.declared.meta.Parts.{Parts}
+use Rattle.luks_meta.specs.declared.reencrypt.Mode.TheVariants.{Reencrypt}
+use Rattle.luks_meta.specs.declared.segment.Segment.{Segment}
 use Rattle.luks_slots.specs.KeyMaking.Digests.{digest_for}
 use Rattle.luks_slots.specs.KeyMaking.Drawings.{AreDrawn, Draw}
 use Rattle.luks_rules.specs.Idles.{idle_from, idle_of}

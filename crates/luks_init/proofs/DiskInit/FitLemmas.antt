@@ -9,7 +9,7 @@ use Rattle.luks_init.specs.DiskInit.Makings.{IsMade, draw_of}
 use Rattle.sector_disk.specs.JoinedDisks.Counts.{HasSizes}
 use Rattle.luks_init.specs.Begins.{IsBegun}
 use Rattle.luks_init.specs.declared.wish.Wish.{Wish}
-use Rattle.luks_json.specs.declared.meta.Parts.{Parts}
+use Rattle.luks_meta.specs.declared.meta.Parts.{Parts}
 use Rattle.luks_rules.specs.Areas.{areas_end, main_bytes}
 use Rattle.luks_rules.specs.Idles.{idle_from, idle_of}
 use Rattle.luks_rules.specs.Segments.{in_progress}

@@ -13,7 +13,7 @@ use Rattle.luks_init.specs.Laws.{MayStartThere}
 use Rattle.luks_init.specs.Wishes.{IsWish}
 use Rattle.luks_init.specs.declared.wish.Wish.{Wish}
 use Rattle.luks_json.specs.Metas.{meta_from}
-use Rattle.luks_json.specs.declared.meta.Parts.{Parts}
+use Rattle.luks_meta.specs.declared.meta.Parts.{Parts}
 use Rattle.luks_slots.specs.KeyMaking.Drawings.{Draw}
 use Rattle.luks_rules.specs.Areas.{areas_begin}
 use Rattle.luks_rules.specs.States.{IsSound}

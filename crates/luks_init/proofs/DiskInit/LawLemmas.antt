@@ -20,7 +20,7 @@ use Rattle.luks_store.specs.declared.header_copies.repair.Repair.{Repair}
 use Rattle.luks_init.specs.Laws.{MayStartThere}
 use Rattle.luks_init.specs.Wishes.{IsWish}
 use Rattle.luks_init.specs.declared.wish.Wish.{Wish}
-use Rattle.luks_json.specs.declared.meta.Parts.{Parts}
+use Rattle.luks_meta.specs.declared.meta.Parts.{Parts}
 use Rattle.luks_rules.specs.Areas.{areas_begin}
 use Rattle.luks_rules.specs.declared.valid.Checked.{Checked}
 use Rattle.luks_slots.specs.Gaps.{IsFree}

@@ -5,7 +5,7 @@ use Rattle.base_terms.specs.declared.disk_sizes.Sizes.{Sizes}
 use Rattle.luks_init.specs.DiskInit.Slips.{KeepsOthers, LosesNothing, WouldLose, key_holders}
 use Rattle.luks_init.specs.declared.init_disk.refusal.Refusal.TheVariants as refusals
 use Rattle.luks_init.specs.declared.wish.Wish.{Wish}
-use Rattle.luks_json.specs.declared.meta.Parts.{Parts}
+use Rattle.luks_meta.specs.declared.meta.Parts.{Parts}
 use Rattle.luks_rules.specs.Segments.{has_tail}
 use Rattle.luks_slots.specs.declared.kinds.SlotKind.{SlotKind}
 

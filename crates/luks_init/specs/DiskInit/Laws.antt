@@ -8,7 +8,7 @@ use Rattle.luks_init.specs.DiskInit.Tables.{HasBegun, KeepsNext, TellsOn}
 use Rattle.luks_store.specs.declared.header_copies.repair.Repair.{Repair}
 use Rattle.luks_init.specs.Wishes.{IsWish}
 use Rattle.luks_init.specs.declared.wish.Wish.{Wish}
-use Rattle.luks_json.specs.declared.meta.Parts.{Parts}
+use Rattle.luks_meta.specs.declared.meta.Parts.{Parts}
 use Rattle.luks_store.specs.declared.loaded.Stored.{Stored}
 use Rattle.reenc_meta.specs.Placements.{all_atoms}
 use Rattle.reenc_recovery.specs.Calls.{DiskOpeningRun}

@@ -6,8 +6,8 @@ use Rattle.base_terms.specs.declared.disk_sizes.Sizes.{Sizes}
 use Rattle.luks_init.specs.declared.init_disk.refusal.Refusal.{Refusal}
 use Rattle.luks_init.specs.declared.init_disk.refusal.Refusal.TheVariants as refusals
 use Rattle.luks_init.specs.declared.wish.Wish.{Wish}
-use Rattle.luks_json.specs.declared.digest.Digest.{Digest}
-use Rattle.luks_json.specs.declared.meta.Parts.{Parts}
+use Rattle.luks_meta.specs.declared.digest.Digest.{Digest}
+use Rattle.luks_meta.specs.declared.meta.Parts.{Parts}
 use Rattle.luks_rules.specs.Idles.{idle_of}
 use Rattle.luks_rules.specs.References.{value_at}
 use Rattle.luks_rules.specs.Segments.{has_tail}

@@ -4,7 +4,7 @@ use Rattle.std.specs.Prelude.{ℕ, ◌≡◌, ◌++◌, List, ◌∷◌, map, Op
 use Rattle.std.specs.List.{All}
 use Rattle.base_terms.specs.Blocks.{joined}
 use Rattle.base_terms.specs.declared.disk_sizes.Sizes.{Sizes}
-use Rattle.luks_json.specs.declared.meta.Parts.{Parts}
+use Rattle.luks_meta.specs.declared.meta.Parts.{Parts}
 use Rattle.luks_store.specs.Commits.{AreGood, IsNextStored}
 use Rattle.luks_store.specs.Devices.{IsCertain, front_of}
 use Rattle.luks_store.specs.Loads.{stored_in}

@@ -2,7 +2,7 @@
 
 use crate::Wish;
 use gates::Gate;
-use luks_json::{Derivation, Digest, Encryption, Keyslot, Parts};
+use luks_meta::{Derivation, Digest, Encryption, Keyslot, Parts};
 use luks_rules::{Valid, lists_number};
 use luks_slots::Key;
 use std::alloc::{AllocError, Global};

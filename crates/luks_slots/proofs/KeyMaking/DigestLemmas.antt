@@ -5,7 +5,7 @@ use Rattle.std.proofs.lemmas.Slice.Eq.{bytes_eq-Decides}
 use Rattle.std.specs.List.{AllByRecursion}
 use Rattle.base64.specs.GeneralPurpose.{IsBytes}
 use Rattle.json_members.specs.Members.{IsPlain}
-use Rattle.luks_json.specs.Digests.{IsDigest}
+use Rattle.luks_meta.specs.Digests.{IsDigest}
 use Rattle.luks_slots.specs.KeyMaking.Digests.{digest_for}
 use Rattle.luks_slots.specs.Unlocks.{matches}
 use Rattle.pbkdf2_hmac.proofs.Lengths.{length-blocks_of}

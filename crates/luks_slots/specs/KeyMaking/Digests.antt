@@ -1,7 +1,7 @@
 -- The digest of a new key (LUKS2 On-Disk Format Specification 1.1, section 3.5).
 use Rattle.std.specs.Prelude.{ℕ, List}
-use Rattle.luks_json.specs.declared.digest.Digest.{Digest}
-use Rattle.luks_json.specs.declared.names.Hash.TheVariants as hashes
+use Rattle.luks_meta.specs.declared.digest.Digest.{Digest}
+use Rattle.luks_meta.specs.declared.names.Hash.TheVariants as hashes
 use Rattle.pbkdf2_hmac.specs.Pbkdf2.{derived_key}
 use Rattle.pbkdf2_hmac.specs.declared.Hash.TheVariants.{Sha256}
 use Rattle.serde_json.specs.Data.{no_members}

@@ -2,13 +2,13 @@
 
 ghost use Rattle.std.specs.Prelude.{◌≡◌, ◌<◌, ◌^◌, ℕ, true, IfOk, slice_index};
 ghost use Rattle.std.specs.List.{AllByRecursion};
-ghost use Rattle.luks_json.specs.Digests.{IsDigest};
+ghost use Rattle.luks_meta.specs.Digests.{IsDigest};
 ghost use Rattle.luks_slots.specs.KeyMaking.Digests.{digest_for};
 ghost use Rattle.luks_slots.specs.Unlocks.{matches};
 
 use base_terms::bytes_are_below_256;
 use json_members::{Object, copy_bytes, copy_numbers};
-use luks_json::{Digest, Hash};
+use luks_meta::{Digest, Hash};
 use pbkdf2_hmac::derive;
 use std::alloc::{AllocError, Global};
 

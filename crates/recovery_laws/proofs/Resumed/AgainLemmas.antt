@@ -11,8 +11,8 @@ use Rattle.sector_disk.specs.DiskViews.Parts.{AreBlocks, block_at, value_in}
 use Rattle.crash_laws.specs.HotZones.Zones.{datashift}
 use Rattle.hotzone.specs.Sites.{IsSaved}
 use Rattle.luks_store.specs.Copying.Meanings.{header_reader}
-use Rattle.luks_json.specs.declared.meta.Parts.{Parts}
-use Rattle.luks_json.specs.declared.segment.Encryption.{Encryption}
+use Rattle.luks_meta.specs.declared.meta.Parts.{Parts}
+use Rattle.luks_meta.specs.declared.segment.Encryption.{Encryption}
 use Rattle.luks_rules.specs.Idles.{idle_of}
 use Rattle.luks_rules.specs.Rules.{first_fault}
 use Rattle.luks_rules.specs.Segments.{in_progress}
@@ -47,12 +47,12 @@ use Rattle.volume_machine.specs.Seals.{AreLawful, Seals, seals_of}
 use Rattle.volume_machine.specs.Working.{HasRoom}
 use Rattle.volume_machine.specs.Works.{Work}
 use Rattle.volume_machine.specs.declared.keys.Keys.{Keys}
-use Rattle.zone_events.proofs.GroundLemmas.{busy-of}
-use Rattle.zone_events.proofs.SideLemmas.{all-behind, side-as}
-use Rattle.zone_events.proofs.TellLemmas.{guard-told, store-told}
-use Rattle.zone_events.specs.Readings.{guard_in, map_of, parts_in, reading_of}
-use Rattle.zone_events.specs.Sides.{IsSideOf}
-use Rattle.zone_events.specs.Tellings.{resilience_of}
+use Rattle.hotzone.proofs.ZoneEvents.GroundLemmas.{busy-of}
+use Rattle.hotzone.proofs.ZoneEvents.SideLemmas.{all-behind, side-as}
+use Rattle.hotzone.proofs.ZoneEvents.TellLemmas.{guard-told, store-told}
+use Rattle.hotzone.specs.ZoneEvents.Readings.{guard_in, map_of, parts_in, reading_of}
+use Rattle.hotzone.specs.ZoneEvents.Sides.{IsSideOf}
+use Rattle.hotzone.specs.ZoneEvents.Tellings.{resilience_of}
 use Rattle.image_laws.specs.Led.Keys.{AreCiphersOf}
 
 -- ---- what a header's meaning tells of a side that is that of the first metadata

@@ -15,7 +15,7 @@ use Rattle.sector_disk.specs.DiskViews.Parts.{value_in}
 use Rattle.crash_laws.specs.HotZones.Zones.{datashift, from_of, stage_of, to_of}
 use Rattle.hotzone.specs.Sites.{IsSaved}
 use Rattle.luks_store.specs.Copying.Meanings.{header_reader}
-use Rattle.luks_json.specs.declared.meta.Parts.{Parts}
+use Rattle.luks_meta.specs.declared.meta.Parts.{Parts}
 use Rattle.luks_rules.specs.Areas.{header_bytes}
 use Rattle.luks_rules.specs.Rules.{first_fault}
 use Rattle.luks_rules.specs.declared.valid.Checked.{Checked}
@@ -65,9 +65,9 @@ use Rattle.volume_machine.specs.declared.keys.Keys.{Keys}
 use Rattle.volume_laws.specs.WorkerRuns.Conversions.{MayConvert}
 use Rattle.volume_laws.specs.WorkerRuns.Leaving.{SaysAs, SaysItEnds, WorksLeaveTheRest}
 use Rattle.volume_laws.specs.WorkerRuns.Steps.{HasWorked}
-use Rattle.zone_events.proofs.TellLemmas.{guard-told}
-use Rattle.zone_events.specs.Heads.{header_on}
-use Rattle.zone_events.specs.Readings.{guard_in, map_of, parts_in, reading_of}
+use Rattle.hotzone.proofs.ZoneEvents.TellLemmas.{guard-told}
+use Rattle.hotzone.specs.ZoneEvents.Heads.{header_on}
+use Rattle.hotzone.specs.ZoneEvents.Readings.{guard_in, map_of, parts_in, reading_of}
 
 -- the laws that this stands on
 pub record ChainLaws {C : Type 0} (sector : C → ℕ) (sealed opened : C → ℕ → List ℕ → List ℕ)

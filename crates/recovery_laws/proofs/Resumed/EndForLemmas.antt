@@ -54,10 +54,10 @@ use Rattle.volume_machine.specs.Works.{Work, complete, converting, resting}
 use Rattle.volume_machine.specs.declared.keys.Keys.{Keys}
 use Rattle.volume_laws.specs.WorkerRuns.Conversions.{HasConverted, IsConverted}
 use Rattle.volume_laws.specs.WorkerRuns.Leaving.{LeavesRest}
-use Rattle.zone_events.proofs.TellLemmas.{converts-told, guard-told}
-use Rattle.zone_events.specs.Heads.{header_on}
-use Rattle.zone_events.specs.Readings.{map_of, parts_in, reading_of}
-use Rattle.zone_events.specs.Sides.{IsSideOf}
+use Rattle.hotzone.proofs.ZoneEvents.TellLemmas.{converts-told, guard-told}
+use Rattle.hotzone.specs.ZoneEvents.Heads.{header_on}
+use Rattle.hotzone.specs.ZoneEvents.Readings.{map_of, parts_in, reading_of}
+use Rattle.hotzone.specs.ZoneEvents.Sides.{IsSideOf}
 
 -- ---- bytes are the text of their atoms
 text-of : (atom n at : ℕ) (bytes : List ℕ) → length bytes ≡ (at + n) * atom

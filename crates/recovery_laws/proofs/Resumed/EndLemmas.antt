@@ -20,9 +20,9 @@ use Rattle.recovery_laws.proofs.Resumed.ShowLemmas.{shown-both}
 use Rattle.sector_disk.specs.Devices.{Device}
 use Rattle.sector_disk.specs.Steps.{Told}
 use Rattle.volume_machine.specs.Seals.{Seals}
-use Rattle.zone_events.proofs.HeadLemmas.{header-behind}
-use Rattle.zone_events.specs.Heads.{header_on}
-use Rattle.zone_events.specs.Works.{layout_for}
+use Rattle.hotzone.proofs.ZoneEvents.HeadLemmas.{header-behind}
+use Rattle.hotzone.specs.ZoneEvents.Heads.{header_on}
+use Rattle.hotzone.specs.ZoneEvents.Works.{layout_for}
 use Rattle.image_laws.proofs.Led.LawLemmas.{begun}
 use Rattle.image_laws.proofs.Led.MendStepLemmas.{goes-one, same-on}
 use Rattle.image_laws.proofs.Led.RunLemmas.{Carries, carried, known-own, one-told, over-before}

@@ -8,7 +8,7 @@ use Rattle.luks_bin.proofs.FieldLemmas.{size-least}
 use Rattle.luks_bin.specs.Copies.{text_of}
 use Rattle.luks_store.specs.Copying.Meanings.{header_reader, meaning_of, size_in}
 use Rattle.luks_json.specs.Metas.{meta_from}
-use Rattle.luks_json.specs.declared.meta.Parts.{Parts}
+use Rattle.luks_meta.specs.declared.meta.Parts.{Parts}
 use Rattle.luks_rules.specs.Idles.{idle_of}
 use Rattle.luks_rules.specs.Rules.{first_fault}
 use Rattle.luks_rules.specs.Shapes.{progress_of}
@@ -27,10 +27,11 @@ use Rattle.luks_store.specs.declared.loaded.Stored.{Stored}
 use Rattle.reenc_meta.specs.ConversionMaps.{IsMapAt}
 use Rattle.sector_disk.specs.Geometry.{IsAtom}
 use Rattle.image_laws.proofs.Started.HeaderLemmas.{known-of}
-use Rattle.zone_events.proofs.MapLemmas.{HasShape, shaped-with, some-atom}
-use Rattle.zone_events.proofs.TextLemmas.{text-in}
-use Rattle.zone_events.specs.Readings.{Shape, idle_shape, is_map, map_by, map_of, map_when, no_shape}
-use Rattle.zone_events.specs.Readings.{parts_in, shape_at, shape_from, shape_of, text_in}
+use Rattle.hotzone.proofs.ZoneEvents.MapLemmas.{HasShape, shaped-with, some-atom}
+use Rattle.hotzone.proofs.ZoneEvents.TextLemmas.{text-in}
+use Rattle.hotzone.specs.ZoneEvents.Readings.{Shape, idle_shape, is_map, map_by, map_of, map_when}
+use Rattle.hotzone.specs.ZoneEvents.Readings.{no_shape}
+use Rattle.hotzone.specs.ZoneEvents.Readings.{parts_in, shape_at, shape_from, shape_of, text_in}
 
 -- ---- loaded
 parts-of : (copy : List ℕ) (size : ℕ) → 4096 ≤ length copy → size_in (meaning_of copy) ≡ size

@@ -5,11 +5,11 @@ use Rattle.std.proofs.lemmas.Bool.{cases_lt}
 use Rattle.crash_laws.specs.HotZones.Zones.{Hotzone, checksum, datashift, journal}
 use Rattle.crash_laws.specs.HotZones.Zones.{Resilience as Kind}
 use Rattle.hotzone.specs.Sites.{IsSaved}
-use Rattle.luks_json.specs.declared.reencrypt.Resilience.{Resilience as Guard}
-use Rattle.luks_json.specs.declared.reencrypt.Resilience.TheVariants.{Checksum, Datashift, Journal}
+use Rattle.luks_meta.specs.declared.reencrypt.Resilience.{Resilience as Guard}
+use Rattle.luks_meta.specs.declared.reencrypt.Resilience.TheVariants.{Checksum, Datashift, Journal}
 use Rattle.image_laws.specs.Opened.Zones.{guard_of}
 use Rattle.volume_machine.specs.Working.{HasRoom}
-use Rattle.zone_events.specs.Tellings.{resilience_of}
+use Rattle.hotzone.specs.ZoneEvents.Tellings.{resilience_of}
 
 pub same-guard : (r : Guard) → resilience_of r ≡ guard_of r
 same-guard Journal = refl

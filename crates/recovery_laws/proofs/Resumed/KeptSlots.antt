@@ -14,7 +14,7 @@ use Rattle.sector_disk.proofs.DiskViews.Entries.{image_in, length-image}
 use Rattle.sector_disk.specs.DiskViews.Parts.{block_at, cell_in, value_in}
 use Rattle.crash_laws.specs.HotZones.Zones.{from_of, stage_of, to_of}
 use Rattle.luks_store.specs.Copying.Meanings.{header_reader, size_in}
-use Rattle.luks_json.specs.declared.meta.Parts.{Parts}
+use Rattle.luks_meta.specs.declared.meta.Parts.{Parts}
 use Rattle.luks_rules.specs.Areas.{areas_begin, areas_end}
 use Rattle.luks_rules.specs.Rules.{first_fault}
 use Rattle.luks_rules.specs.States.{IsPlaced, IsSound}
@@ -49,10 +49,10 @@ use Rattle.volume_machine.specs.States.{State}
 use Rattle.volume_machine.specs.Works.{Work, converting, resting}
 use Rattle.volume_machine.specs.declared.keys.Keys.{Keys}
 use Rattle.volume_laws.specs.WorkerRuns.Leaving.{IsDropped, IsElsewhere, KeepsAtom, LeavesRest, SaysAs, SaysItEnds}
-use Rattle.zone_events.proofs.GroundLemmas.{converting as under-way}
-use Rattle.zone_events.specs.Heads.{header_on}
-use Rattle.zone_events.specs.Readings.{parts_in, reading_of}
-use Rattle.zone_events.specs.Sides.{SidesAreTold}
+use Rattle.hotzone.proofs.ZoneEvents.GroundLemmas.{converting as under-way}
+use Rattle.hotzone.specs.ZoneEvents.Heads.{header_on}
+use Rattle.hotzone.specs.ZoneEvents.Readings.{parts_in, reading_of}
+use Rattle.hotzone.specs.ZoneEvents.Sides.{SidesAreTold}
 
 -- ---- an atom beside the blocks
 -- a place that was certain, and is kept, has what it held

@@ -9,9 +9,9 @@ use Rattle.conversion_opening.specs.Openings.{IsFound}
 use Rattle.conversion_opening.specs.Runs.{MendsZone, last_of}
 use Rattle.base_terms.specs.declared.disk_sizes.Sizes.{Sizes}
 use Rattle.sector_disk.specs.JoinedDisks.Joined.{Joint, joined_disk}
-use Rattle.luks_json.specs.declared.digest.Digest.{Digest}
-use Rattle.luks_json.specs.declared.meta.Parts.{Parts}
-use Rattle.luks_json.specs.declared.segment.Encryption.{Encryption}
+use Rattle.luks_meta.specs.declared.digest.Digest.{Digest}
+use Rattle.luks_meta.specs.declared.meta.Parts.{Parts}
+use Rattle.luks_meta.specs.declared.segment.Encryption.{Encryption}
 use Rattle.luks_rules.specs.Areas.{areas_begin}
 use Rattle.luks_rules.specs.References.{value_at}
 use Rattle.luks_rules.specs.Shapes.{progress_of}
@@ -50,7 +50,7 @@ use Rattle.sector_disk.specs.Steps.{Told}
 use Rattle.image_laws.proofs.Started.BlockLemmas.{progress-busy}
 use Rattle.image_laws.proofs.Started.GapLemmas.{one-header}
 use Rattle.image_laws.proofs.Started.HeaderLemmas.{known-of}
-use Rattle.zone_events.proofs.GroundLemmas.{one-progress}
+use Rattle.hotzone.proofs.ZoneEvents.GroundLemmas.{one-progress}
 use Rattle.image_laws.proofs.Led.PassLemmas.{new-key-next, old-key-next}
 use Rattle.image_laws.proofs.Led.SinceLemmas.{since-weaker}
 use Rattle.image_laws.specs.Led.Holding.{TellsLawfully, TellsOn}

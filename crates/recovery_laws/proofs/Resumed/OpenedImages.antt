@@ -29,7 +29,7 @@ use Rattle.sector_disk.specs.Cells.{Cell}
 use Rattle.sector_disk.specs.Devices.{Device}
 use Rattle.sector_disk.specs.Steps.{Told}
 use Rattle.image_laws.proofs.Started.GapLemmas.{one-header}
-use Rattle.zone_events.proofs.GroundLemmas.{busy-of}
+use Rattle.hotzone.proofs.ZoneEvents.GroundLemmas.{busy-of}
 use Rattle.image_laws.specs.Led.Holding.{HoldsSince, TellsOn}
 use Rattle.image_laws.specs.Led.Spared.{IsSparedTurn}
 use Rattle.image_laws.specs.Led.Turned.{StandsBy}

@@ -31,7 +31,7 @@ use Rattle.image_laws.specs.Opened.Promises.{OpeningsKeepImages, OpeningsMendIma
 use Rattle.reenc_recovery.proofs.PlacingLemmas.{is_idle}
 use Rattle.reenc_recovery.specs.Placings.{PlacesVolume}
 use Rattle.reenc_meta.specs.declared.placement.Placement.{Placement}
-use Rattle.luks_json.specs.declared.meta.Parts.{Parts}
+use Rattle.luks_meta.specs.declared.meta.Parts.{Parts}
 use Rattle.reenc_recovery.specs.Calls.{OpeningRun, RepairRun, SyncsAndReads}
 use Rattle.reenc_recovery.specs.Headers.{IsFoundHeader}
 use Rattle.reenc_recovery.specs.Images.{StandsUnder}
@@ -53,9 +53,9 @@ use Rattle.sector_disk.specs.Geometry.{IsAtom}
 use Rattle.sector_disk.specs.Steps.{Told}
 use Rattle.image_laws.proofs.Started.BlockLemmas.{progress-busy}
 use Rattle.image_laws.proofs.Started.GapLemmas.{one-header}
-use Rattle.zone_events.proofs.GroundLemmas.{one-progress}
+use Rattle.hotzone.proofs.ZoneEvents.GroundLemmas.{one-progress}
 use Rattle.volume_machine.specs.declared.keys.Keys.{Keys}
-use Rattle.zone_events.specs.Works.{layout_for}
+use Rattle.hotzone.specs.ZoneEvents.Works.{layout_for}
 use Rattle.image_laws.proofs.Led.SinceLemmas.{since-weaker}
 use Rattle.image_laws.proofs.Led.StartLemmas.{Laws}
 use Rattle.image_laws.specs.Led.Holding.{HoldsHeader, TellsLawfully, TellsOn}

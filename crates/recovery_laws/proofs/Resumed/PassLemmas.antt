@@ -14,7 +14,7 @@ use Rattle.sector_disk.specs.DiskViews.Views.{IsOutside}
 use Rattle.crash_laws.specs.HotZones.Zones.{from_of, stage_of, to_of}
 use Rattle.hotzone.specs.Endings.{is_left}
 use Rattle.luks_store.specs.Copying.Meanings.{header_reader}
-use Rattle.luks_json.specs.declared.meta.Parts.{Parts}
+use Rattle.luks_meta.specs.declared.meta.Parts.{Parts}
 use Rattle.luks_rules.specs.Areas.{areas_begin, areas_end, areas_of}
 use Rattle.luks_rules.specs.Idles.{idle_of}
 use Rattle.luks_rules.specs.Rules.{first_fault}
@@ -53,12 +53,14 @@ use Rattle.volume_machine.specs.Pieces.{place_in}
 use Rattle.volume_machine.specs.States.{State}
 use Rattle.volume_machine.specs.Works.{Work, resting}
 use Rattle.volume_laws.specs.WorkerRuns.Leaving.{IsDropped, IsElsewhere, SaysAs, SaysItEnds}
-use Rattle.zone_events.proofs.GroundLemmas.{one-progress}
-use Rattle.zone_events.proofs.MemberLemmas.{from-filtered, from-mapped, has-filtered, has-mapped}
-use Rattle.zone_events.proofs.TellLemmas.{converts-told, keyslots-told, store-told}
-use Rattle.zone_events.specs.Readings.{converts_in, keyslots_in, parts_in, reading_of, sealing_in}
-use Rattle.zone_events.specs.Sides.{IsSideOf, SidesAreTold, TellsSide}
-use Rattle.zone_events.specs.Tellings.{area_on, guarding, keyslots_by, side_alone}
+use Rattle.hotzone.proofs.ZoneEvents.GroundLemmas.{one-progress}
+use Rattle.hotzone.proofs.ZoneEvents.MemberLemmas.{from-filtered, from-mapped, has-filtered}
+use Rattle.hotzone.proofs.ZoneEvents.MemberLemmas.{has-mapped}
+use Rattle.hotzone.proofs.ZoneEvents.TellLemmas.{converts-told, keyslots-told, store-told}
+use Rattle.hotzone.specs.ZoneEvents.Readings.{converts_in, keyslots_in, parts_in, reading_of}
+use Rattle.hotzone.specs.ZoneEvents.Readings.{sealing_in}
+use Rattle.hotzone.specs.ZoneEvents.Sides.{IsSideOf, SidesAreTold, TellsSide}
+use Rattle.hotzone.specs.ZoneEvents.Tellings.{area_on, guarding, keyslots_by, side_alone}
 
 -- ---- small facts
 one-idle : {o : Option Idle} (v w : Idle) → o ≡ Some v → o ≡ Some w → v ≡ w

@@ -43,7 +43,7 @@ use Rattle.sector_disk.specs.Cells.{Cell}
 use Rattle.sector_disk.specs.Devices.{Device, failed_call, succeeded}
 use Rattle.image_laws.proofs.Started.GapLemmas.{one-header}
 use Rattle.volume_machine.specs.declared.keys.Keys.{Keys}
-use Rattle.zone_events.proofs.GroundLemmas.{busy-of}
+use Rattle.hotzone.proofs.ZoneEvents.GroundLemmas.{busy-of}
 use Rattle.image_laws.specs.Led.Holding.{TellsLawfully}
 use Rattle.image_laws.specs.Led.Spared.{IsSparedTurn}
 use Rattle.image_laws.specs.Led.Turned.{StandsForBy}

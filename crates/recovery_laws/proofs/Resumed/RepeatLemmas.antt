@@ -34,7 +34,7 @@ use Rattle.recovery_laws.specs.Resumed.Resuming.{IsTakenUp, TakenUpConversionsBe
 use Rattle.sector_disk.specs.Cells.{Cell}
 use Rattle.sector_disk.specs.Devices.{Device}
 use Rattle.image_laws.proofs.Started.GapLemmas.{one-header}
-use Rattle.zone_events.proofs.GroundLemmas.{busy-of}
+use Rattle.hotzone.proofs.ZoneEvents.GroundLemmas.{busy-of}
 use Rattle.image_laws.specs.Led.Holding.{TellsLawfully}
 
 -- ---- one time

@@ -38,9 +38,9 @@ use Rattle.volume_machine.specs.States.{State}
 use Rattle.volume_machine.specs.Works.{converting, resting}
 use Rattle.volume_machine.specs.declared.keys.Keys.{Keys}
 use Rattle.volume_laws.specs.WorkerRuns.Steps.{HasWorked}
-use Rattle.zone_events.proofs.GroundLemmas.{one-progress}
-use Rattle.zone_events.specs.Heads.{header_on}
-use Rattle.zone_events.specs.Readings.{reading_of}
+use Rattle.hotzone.proofs.ZoneEvents.GroundLemmas.{one-progress}
+use Rattle.hotzone.specs.ZoneEvents.Heads.{header_on}
+use Rattle.hotzone.specs.ZoneEvents.Readings.{reading_of}
 use Rattle.image_laws.specs.Led.Keys.{AreCiphersOf}
 
 -- ---- texts that a copy's place was handed

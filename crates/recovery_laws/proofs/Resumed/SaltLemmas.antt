@@ -16,7 +16,7 @@ use Rattle.luks_store.specs.Used.{beside, copies_by, copies_in, nearest, newer_o
 use Rattle.luks_store.specs.declared.copies.Copies.{Copies}
 use Rattle.luks_store.specs.declared.copies.CopyState.TheVariants.{Good, Lacking, Older}
 use Rattle.luks_store.specs.declared.copies.HeaderCopy.{HeaderCopy}
-use Rattle.zone_events.proofs.HeadLemmas.{field-long}
+use Rattle.hotzone.proofs.ZoneEvents.HeadLemmas.{field-long}
 
 -- a good copy stands at the place of the secondary, under the salt that the header has for it
 pub record StandsBeside (bytes : List ℕ) (copies : Copies) : Type 0 where

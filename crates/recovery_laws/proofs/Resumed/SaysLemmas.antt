@@ -9,7 +9,7 @@ use Rattle.sector_disk.specs.DiskViews.Parts.{value_in}
 use Rattle.crash_laws.specs.HotZones.Zones.{datashift}
 use Rattle.hotzone.specs.Sites.{IsSaved}
 use Rattle.luks_store.specs.Copying.Meanings.{header_reader}
-use Rattle.luks_json.specs.declared.meta.Parts.{Parts}
+use Rattle.luks_meta.specs.declared.meta.Parts.{Parts}
 use Rattle.luks_rules.specs.Rules.{first_fault}
 use Rattle.luks_rules.specs.Shapes.{progress_of}
 use Rattle.luks_rules.specs.declared.extents.Extent.{Extent}
@@ -33,10 +33,10 @@ use Rattle.volume_machine.specs.Working.{HasRoom}
 use Rattle.volume_machine.specs.Works.{Work}
 use Rattle.volume_machine.specs.declared.keys.Keys.{Keys}
 use Rattle.volume_laws.specs.WorkerRuns.Leaving.{SaysAs, SaysItEnds}
-use Rattle.zone_events.proofs.GroundLemmas.{one-progress}
-use Rattle.zone_events.proofs.TellLemmas.{converts-told, guard-told}
-use Rattle.zone_events.specs.Readings.{guard_in, map_of, parts_in, reading_of, sealing_in}
-use Rattle.zone_events.specs.Sides.{IsSideOf}
+use Rattle.hotzone.proofs.ZoneEvents.GroundLemmas.{one-progress}
+use Rattle.hotzone.proofs.ZoneEvents.TellLemmas.{converts-told, guard-told}
+use Rattle.hotzone.specs.ZoneEvents.Readings.{guard_in, map_of, parts_in, reading_of, sealing_in}
+use Rattle.hotzone.specs.ZoneEvents.Sides.{IsSideOf}
 use Rattle.image_laws.specs.Led.Keys.{AreCiphersOf}
 
 -- ---- what a header's meaning tells that says of a side what the first one says

@@ -15,7 +15,7 @@ use Rattle.luks_store.specs.Devices.{IsCertain}
 use Rattle.luks_store.specs.declared.loaded.Stored.{Stored}
 use Rattle.recovery_laws.proofs.Resumed.StandLemmas.{StandTwice}
 use Rattle.sector_disk.specs.Cells.{Cell, currents}
-use Rattle.zone_events.specs.Heads.{header_on}
+use Rattle.hotzone.specs.ZoneEvents.Heads.{header_on}
 
 -- ---- where a copy begins, and how long it is
 begins-at : (atom atoms size : ℕ) (layout : Layout) (copy : Copy) → IsLaidOut atom atoms size layout

@@ -2,18 +2,19 @@
 use Rattle.std.proofs.Common.{◌≡◌, ◌∙◌, ◌∷◌, ℕ, true, List, [], None, Option, Some, ap, refl, subst}
 use Rattle.std.proofs.Common.{sym}
 use Rattle.std.specs.Prelude.{option_and_then, option_map}
-use Rattle.luks_json.specs.declared.digest.Digest.{Digest}
-use Rattle.luks_json.specs.declared.meta.Parts.{Parts}
-use Rattle.luks_json.specs.declared.segment.Encryption.{Encryption}
-use Rattle.luks_json.specs.declared.segment.Segment.{Segment}
+use Rattle.luks_meta.specs.declared.digest.Digest.{Digest}
+use Rattle.luks_meta.specs.declared.meta.Parts.{Parts}
+use Rattle.luks_meta.specs.declared.segment.Encryption.{Encryption}
+use Rattle.luks_meta.specs.declared.segment.Segment.{Segment}
 use Rattle.luks_rules.specs.References.{value_at}
 use Rattle.luks_rules.specs.declared.extents.Extent.{Extent}
 use Rattle.luks_slots.specs.Unlocks.{matches}
 use Rattle.reenc_recovery.specs.Keys.{IsKeyBy, IsKeyOf}
 use Rattle.recovery_laws.proofs.Resumed.SaysLemmas.{SidesTellKeys}
 use Rattle.recovery_laws.proofs.Resumed.WorkerDeeds.{head-same}
-use Rattle.zone_events.specs.Sides.{SidesAreTold}
-use Rattle.zone_events.specs.Tellings.{digest_on, for_one, numbered, side_alone, whole_segment}
+use Rattle.hotzone.specs.ZoneEvents.Sides.{SidesAreTold}
+use Rattle.hotzone.specs.ZoneEvents.Tellings.{digest_on, for_one, numbered, side_alone}
+use Rattle.hotzone.specs.ZoneEvents.Tellings.{whole_segment}
 
 -- ---- digests
 -- what a digest tells of its key doesn't hang on the segments that it lists

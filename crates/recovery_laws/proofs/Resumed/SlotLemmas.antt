@@ -12,8 +12,8 @@ use Rattle.std.specs.Prelude.{Contains, slice_index_or}
 use Rattle.base_terms.specs.declared.disk_sizes.Sizes.{Sizes}
 use Rattle.sector_disk.specs.DiskViews.Views.{IsOutside}
 use Rattle.hotzone.proofs.SiteLemmas.{area-kept}
-use Rattle.luks_json.specs.declared.keyslot.Keyslot.{Keyslot}
-use Rattle.luks_json.specs.declared.meta.Parts.{Parts}
+use Rattle.luks_meta.specs.declared.keyslot.Keyslot.{Keyslot}
+use Rattle.luks_meta.specs.declared.meta.Parts.{Parts}
 use Rattle.luks_rules.specs.Areas.{areas_begin, areas_end, areas_of, end_of}
 use Rattle.luks_rules.specs.Overlaps.{TwoShare}
 use Rattle.luks_rules.specs.Shapes.{progress_of}
@@ -25,9 +25,9 @@ use Rattle.luks_slots.specs.Gaps.{IsApart}
 use Rattle.image_laws.proofs.Started.GuardLemmas.{guards-spare}
 use Rattle.image_laws.proofs.Started.KeyLemmas.{among-areas}
 use Rattle.image_laws.specs.Started.Gaps.{key_area, key_areas}
-use Rattle.zone_events.proofs.GroundLemmas.{IsKept, all-kept, converting}
-use Rattle.zone_events.proofs.MemberLemmas.{has-either, has-head, has-rest}
-use Rattle.zone_events.specs.Tellings.{digest_on, is_listed, side_alone}
+use Rattle.hotzone.proofs.ZoneEvents.GroundLemmas.{IsKept, all-kept, converting}
+use Rattle.hotzone.proofs.ZoneEvents.MemberLemmas.{has-either, has-head, has-rest}
+use Rattle.hotzone.specs.ZoneEvents.Tellings.{digest_on, is_listed, side_alone}
 
 -- ---- areas among others
 more-area : (o : Option Area) (xs ys : List Area) (a : Area)

@@ -31,7 +31,7 @@ use Rattle.luks_store.specs.declared.loaded.Stored.{Stored}
 use Rattle.reenc_recovery.proofs.StandingLemmas.{used_stands}
 use Rattle.recovery_laws.proofs.Resumed.SaltLemmas.{HasSalts, has-salts}
 use Rattle.recovery_laws.proofs.Resumed.TextLemmas.{text-moved-is}
-use Rattle.zone_events.specs.Heads.{header_on}
+use Rattle.hotzone.specs.ZoneEvents.Heads.{header_on}
 
 -- both copies of a header, each at its place
 pub record StandTwice (header : Stored) (bytes : List ℕ) : Type 0 where

@@ -10,7 +10,7 @@ use Rattle.base_terms.specs.declared.disk_sizes.Sizes.{Sizes}
 use Rattle.sector_disk.specs.DiskViews.Parts.{AreBlocks, block_at, cell_in, value_in}
 use Rattle.sector_disk.specs.DiskViews.Views.{view_of_bytes, view_of_cells}
 use Rattle.luks_store.specs.Copying.Meanings.{header_reader}
-use Rattle.luks_json.specs.declared.segment.Encryption.{Encryption}
+use Rattle.luks_meta.specs.declared.segment.Encryption.{Encryption}
 use Rattle.luks_rules.specs.Shapes.{progress_of}
 use Rattle.luks_rules.specs.States.{IsConverting, IsSound as IsRuled}
 use Rattle.luks_rules.specs.declared.extents.Extent.{Extent}
@@ -45,10 +45,10 @@ use Rattle.volume_machine.specs.Seals.{AreLawful, Seals, seals_of}
 use Rattle.volume_machine.specs.States.{State, open_at}
 use Rattle.volume_machine.specs.Works.{converting, resting}
 use Rattle.volume_machine.specs.declared.keys.Keys.{Keys}
-use Rattle.zone_events.proofs.GroundLemmas.{busy-of, one-progress}
-use Rattle.zone_events.specs.Heads.{header_on}
-use Rattle.zone_events.specs.Readings.{reading_of}
-use Rattle.zone_events.specs.Works.{layout_for}
+use Rattle.hotzone.proofs.ZoneEvents.GroundLemmas.{busy-of, one-progress}
+use Rattle.hotzone.specs.ZoneEvents.Heads.{header_on}
+use Rattle.hotzone.specs.ZoneEvents.Readings.{reading_of}
+use Rattle.hotzone.specs.ZoneEvents.Works.{layout_for}
 use Rattle.image_laws.proofs.Led.KeyLemmas.{same-sealed}
 
 -- ---- lanes with nothing under way

@@ -15,8 +15,8 @@ use Rattle.crash_laws.specs.HotZones.Standing.{Recovers, digest_at}
 use Rattle.crash_laws.specs.HotZones.Zones.{checksum}
 use Rattle.crash_laws.specs.HotZones.Zones.{Resilience as Kind}
 use Rattle.hotzone.specs.Sites.{IsSaved}
-use Rattle.luks_json.specs.declared.reencrypt.Resilience.{Resilience as Guard}
-use Rattle.luks_json.specs.declared.reencrypt.Resilience.TheVariants.{Checksum, Datashift, Journal}
+use Rattle.luks_meta.specs.declared.reencrypt.Resilience.{Resilience as Guard}
+use Rattle.luks_meta.specs.declared.reencrypt.Resilience.TheVariants.{Checksum, Datashift, Journal}
 use Rattle.luks_rules.specs.Shapes.{progress_of}
 use Rattle.luks_rules.specs.declared.shape.Progress.{Progress}
 use Rattle.luks_store.proofs.SettledLemmas.{atom_of_joined, even_head, even_tail, none_even}
@@ -45,7 +45,7 @@ use Rattle.volume_machine.specs.Seals.{AreLawful, Seals, seals_of}
 use Rattle.volume_machine.specs.Working.{HasRoom}
 use Rattle.volume_machine.specs.Works.{Work}
 use Rattle.volume_machine.specs.declared.keys.Keys.{Keys}
-use Rattle.zone_events.specs.Readings.{map_of, reading_of}
+use Rattle.hotzone.specs.ZoneEvents.Readings.{map_of, reading_of}
 use Rattle.image_laws.proofs.Led.KeyLemmas.{same-opened, same-sealed}
 use Rattle.image_laws.specs.Led.Keys.{AreCiphersOf}
 

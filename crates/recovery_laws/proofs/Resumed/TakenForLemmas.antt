@@ -8,7 +8,7 @@ use Rattle.base_terms.specs.declared.disk_sizes.Sizes.{Sizes}
 use Rattle.hotzone.specs.Sites.{IsSaved}
 use Rattle.hotzone.specs.Workers.{MayGoOn}
 use Rattle.sector_disk.specs.JoinedDisks.Joined.{Joint}
-use Rattle.luks_json.specs.declared.meta.Parts.{Parts}
+use Rattle.luks_meta.specs.declared.meta.Parts.{Parts}
 use Rattle.luks_rules.specs.Shapes.{progress_of}
 use Rattle.luks_rules.specs.declared.extents.Extent.{Extent}
 use Rattle.luks_rules.specs.declared.shape.Progress.{Progress}
@@ -47,11 +47,11 @@ use Rattle.volume_machine.specs.States.{State}
 use Rattle.volume_machine.specs.declared.keys.Keys.{Keys}
 use Rattle.volume_laws.specs.WorkerRuns.Leaving.{DeedsLeaveTheRest}
 use Rattle.volume_laws.specs.WorkerRuns.Steps.{HasWorked}
-use Rattle.zone_events.proofs.GroundLemmas.{one-progress}
-use Rattle.zone_events.proofs.TellLemmas.{guard-told}
-use Rattle.zone_events.specs.Heads.{header_on}
-use Rattle.zone_events.specs.Readings.{reading_of}
-use Rattle.zone_events.specs.Sides.{SidesAreTold}
+use Rattle.hotzone.proofs.ZoneEvents.GroundLemmas.{one-progress}
+use Rattle.hotzone.proofs.ZoneEvents.TellLemmas.{guard-told}
+use Rattle.hotzone.specs.ZoneEvents.Heads.{header_on}
+use Rattle.hotzone.specs.ZoneEvents.Readings.{reading_of}
+use Rattle.hotzone.specs.ZoneEvents.Sides.{SidesAreTold}
 use Rattle.image_laws.specs.Led.Holding.{TellsLawfully}
 
 -- ---- behind an opening

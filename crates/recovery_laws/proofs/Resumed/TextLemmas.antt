@@ -13,7 +13,7 @@ use Rattle.luks_bin.specs.Fields.{field, u64_in}
 use Rattle.luks_bin.specs.Shares.{Agree}
 use Rattle.luks_bin.specs.Writing.{moved, own_pieces, paste_all, summed}
 use Rattle.luks_bin.specs.declared.header.BinHeader.{BinHeader}
-use Rattle.zone_events.proofs.HeadLemmas.{field-long, moved-same}
+use Rattle.hotzone.proofs.ZoneEvents.HeadLemmas.{field-long, moved-same}
 
 -- ---- bytes put where they stand
 paste-own : (old : List ℕ) (at len : ℕ) → at + len ≤ length old

@@ -15,7 +15,7 @@ use Rattle.sector_disk.specs.DiskViews.Parts.{value_in}
 use Rattle.crash_laws.specs.HotZones.Zones.{datashift, from_of, stage_of, to_of}
 use Rattle.hotzone.specs.Sites.{IsSaved}
 use Rattle.luks_store.specs.Copying.Meanings.{header_reader}
-use Rattle.luks_json.specs.declared.meta.Parts.{Parts}
+use Rattle.luks_meta.specs.declared.meta.Parts.{Parts}
 use Rattle.luks_rules.specs.Areas.{header_bytes}
 use Rattle.luks_rules.specs.Rules.{first_fault}
 use Rattle.luks_rules.specs.declared.valid.Checked.{Checked}
@@ -60,9 +60,9 @@ use Rattle.volume_machine.specs.Working.{HasRoom}
 use Rattle.volume_machine.specs.Works.{converting, resting}
 use Rattle.volume_machine.specs.declared.keys.Keys.{Keys}
 use Rattle.volume_laws.specs.WorkerRuns.Leaving.{DeedsLeaveTheRest, SaysAs, SaysItEnds}
-use Rattle.zone_events.proofs.TellLemmas.{guard-told}
-use Rattle.zone_events.specs.Heads.{header_on}
-use Rattle.zone_events.specs.Readings.{guard_in, map_of, parts_in, reading_of}
+use Rattle.hotzone.proofs.ZoneEvents.TellLemmas.{guard-told}
+use Rattle.hotzone.specs.ZoneEvents.Heads.{header_on}
+use Rattle.hotzone.specs.ZoneEvents.Readings.{guard_in, map_of, parts_in, reading_of}
 use Rattle.volume_laws.specs.BesideLanes.Lanes.{StaysSame}
 use Rattle.volume_laws.proofs.BesideServing.{Failures.deeds_same, Legals.legal_one}
 use Rattle.volume_laws.proofs.BesideServing.Stops.{HasWork, work_over}

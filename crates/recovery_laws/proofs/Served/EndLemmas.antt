@@ -54,10 +54,10 @@ use Rattle.volume_machine.specs.States.{State}
 use Rattle.volume_machine.specs.Works.{Work, complete, converting, resting}
 use Rattle.volume_machine.specs.declared.keys.Keys.{Keys}
 use Rattle.volume_laws.specs.WorkerRuns.Leaving.{LeavesRest}
-use Rattle.zone_events.proofs.TellLemmas.{converts-told}
-use Rattle.zone_events.specs.Heads.{header_on}
-use Rattle.zone_events.specs.Readings.{reading_of}
-use Rattle.zone_events.specs.Sides.{IsSideOf}
+use Rattle.hotzone.proofs.ZoneEvents.TellLemmas.{converts-told}
+use Rattle.hotzone.specs.ZoneEvents.Heads.{header_on}
+use Rattle.hotzone.specs.ZoneEvents.Readings.{reading_of}
+use Rattle.hotzone.specs.ZoneEvents.Sides.{IsSideOf}
 
 only-work : {work other : Work} {o : _} → o ≡ Some work → o ≡ Some other → work ≡ other
 only-work {work} {other} {o} is also = (let e : Some work ≡ Some other = sym is ∙ also in cc)

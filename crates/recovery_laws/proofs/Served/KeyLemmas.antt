@@ -6,7 +6,7 @@ use Rattle.base_terms.specs.declared.disk_sizes.Sizes.{Sizes}
 use Rattle.header_report.proofs.ExamineLemmas.{whole_front}
 use Rattle.header_report.specs.Examinations.{sizes_alone}
 use Rattle.sector_disk.specs.JoinedDisks.Joined.{joined_disk}
-use Rattle.luks_json.specs.declared.meta.Parts.{Parts}
+use Rattle.luks_meta.specs.declared.meta.Parts.{Parts}
 use Rattle.luks_rules.specs.Shapes.{progress_of}
 use Rattle.luks_rules.specs.declared.extents.Extent.{Extent}
 use Rattle.luks_rules.specs.declared.shape.Progress.{Progress}
@@ -30,7 +30,7 @@ use Rattle.image_laws.proofs.Started.GapLemmas.{one-header}
 use Rattle.volume_machine.specs.States.{State}
 use Rattle.volume_machine.specs.declared.keys.Keys.{Keys}
 use Rattle.volume_opening.specs.Openings.{alone}
-use Rattle.zone_events.proofs.GroundLemmas.{one-progress}
+use Rattle.hotzone.proofs.ZoneEvents.GroundLemmas.{one-progress}
 
 module _ (device : Device) (pass first : List ℕ) (keys : SideKeys) (read : Device)
     (under : AreUnderKeys device pass keys read) (begins : BeginsWith device read)

@@ -23,7 +23,7 @@ use Rattle.volume_machine.specs.States.{State}
 use Rattle.volume_machine.specs.Working.{KeepsApart}
 use Rattle.volume_machine.specs.declared.keys.Keys.{Keys}
 use Rattle.volume_opening.specs.Openings.{alone}
-use Rattle.zone_events.specs.Heads.{header_on}
+use Rattle.hotzone.specs.ZoneEvents.Heads.{header_on}
 
 -- the laws that are cited
 pub record ServingLaws {C : Type 0} (sector : C → ℕ) (sealed opened : C → ℕ → List ℕ → List ℕ)

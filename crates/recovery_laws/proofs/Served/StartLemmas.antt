@@ -18,7 +18,7 @@ use Rattle.volume_machine.specs.States.{IsGoverned, State}
 use Rattle.volume_machine.specs.Works.{Work, converting, resting}
 use Rattle.volume_machine.specs.declared.keys.Keys.{Keys}
 use Rattle.volume_opening.specs.Openings.{alone}
-use Rattle.zone_events.specs.Readings.{reading_of}
+use Rattle.hotzone.specs.ZoneEvents.Readings.{reading_of}
 
 -- between two zones no block is governed
 none-governed : {K : Type 0} (state : State K) (layout : _) (header : _) (b : ℕ)

@@ -54,7 +54,7 @@ use Rattle.volume_machine.specs.Working.{KeepsApart}
 use Rattle.volume_machine.specs.Works.{Work}
 use Rattle.volume_machine.specs.declared.keys.Keys.{Keys}
 use Rattle.volume_opening.proofs.FrontLemmas.{atom_is, front_is}
-use Rattle.zone_events.proofs.GroundLemmas.{one-progress}
+use Rattle.hotzone.proofs.ZoneEvents.GroundLemmas.{one-progress}
 use Rattle.image_laws.proofs.Led.KeyLemmas.{same-opened, same-sealed}
 
 -- ---- a content, value by value

@@ -21,8 +21,8 @@ use Rattle.reenc_recovery.specs.declared.keys.SideKeys.{SideKeys}
 use Rattle.sector_disk.specs.Cells.{Cell, synced}
 use Rattle.sector_disk.specs.Devices.{Device}
 use Rattle.sector_disk.specs.Steps.{Told}
-use Rattle.zone_events.specs.Heads.{header_on}
-use Rattle.zone_events.specs.Works.{layout_for}
+use Rattle.hotzone.specs.ZoneEvents.Heads.{header_on}
+use Rattle.hotzone.specs.ZoneEvents.Works.{layout_for}
 use Rattle.image_laws.specs.Led.Holding.{HoldsHeader, TellsOn}
 use Rattle.image_laws.specs.Led.Spared.{IsSparedTurn}
 use Rattle.image_laws.specs.Led.Turned.{StandsBy}

@@ -23,8 +23,8 @@ use Rattle.volume_laws.specs.Converting.{IsInOrder}
 use Rattle.volume_machine.specs.States.{State}
 use Rattle.volume_machine.specs.declared.keys.Keys.{Keys}
 use Rattle.volume_laws.specs.WorkerRuns.Conversions.{HasConverted}
-use Rattle.zone_events.specs.Heads.{header_on}
-use Rattle.zone_events.specs.Readings.{reading_of}
+use Rattle.hotzone.specs.ZoneEvents.Heads.{header_on}
+use Rattle.hotzone.specs.ZoneEvents.Readings.{reading_of}
 
 -- ---- an image
 -- By its header the conversion goes on, and the image stands for the content under the passphrase,

@@ -31,8 +31,8 @@ use Rattle.volume_machine.specs.Deeds.{Deed, state_after}
 use Rattle.volume_machine.specs.States.{State}
 use Rattle.volume_machine.specs.declared.keys.Keys.{Keys}
 use Rattle.volume_laws.specs.WorkerRuns.Steps.{HasWorked}
-use Rattle.zone_events.specs.Heads.{header_on}
-use Rattle.zone_events.specs.Readings.{reading_of}
+use Rattle.hotzone.specs.ZoneEvents.Heads.{header_on}
+use Rattle.hotzone.specs.ZoneEvents.Readings.{reading_of}
 use Rattle.image_laws.specs.Led.Holding.{TellsLawfully}
 use Rattle.image_laws.specs.Led.Spared.{IsSparedTurn}
 

@@ -20,8 +20,8 @@ use Rattle.volume_machine.specs.States.{State}
 use Rattle.volume_machine.specs.declared.keys.Keys.{Keys}
 use Rattle.volume_laws.specs.WorkerRuns.Conversions.{HasConverted}
 use Rattle.volume_laws.specs.WorkerRuns.Steps.{HasWorked}
-use Rattle.zone_events.specs.Heads.{header_on}
-use Rattle.zone_events.specs.Readings.{reading_of}
+use Rattle.hotzone.specs.ZoneEvents.Heads.{header_on}
+use Rattle.hotzone.specs.ZoneEvents.Readings.{reading_of}
 
 -- the text of each copy of a header, by its place
 abbrev pub both_of : Header (List ℕ) → Handed

@@ -16,9 +16,9 @@ use Rattle.volume_machine.specs.Seals.{Seals, seals_of}
 use Rattle.volume_machine.specs.States.{State}
 use Rattle.volume_machine.specs.Works.{converting}
 use Rattle.volume_machine.specs.declared.keys.Keys.{Keys}
-use Rattle.zone_events.specs.Heads.{header_on}
-use Rattle.zone_events.specs.Readings.{reading_of}
-use Rattle.zone_events.specs.Works.{layout_for}
+use Rattle.hotzone.specs.ZoneEvents.Heads.{header_on}
+use Rattle.hotzone.specs.ZoneEvents.Readings.{reading_of}
+use Rattle.hotzone.specs.ZoneEvents.Works.{layout_for}
 use Rattle.image_laws.specs.Led.Keys.{AreCiphersOf}
 
 -- where the copies of a header lie, and how the keys of a volume seal its blocks

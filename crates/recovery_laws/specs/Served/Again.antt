@@ -20,8 +20,8 @@ use Rattle.volume_machine.specs.Runs.{no_plain}
 use Rattle.volume_machine.specs.Seals.{Seals}
 use Rattle.volume_machine.specs.States.{State}
 use Rattle.volume_machine.specs.declared.keys.Keys.{Keys}
-use Rattle.zone_events.specs.Heads.{header_on}
-use Rattle.zone_events.specs.Readings.{reading_of}
+use Rattle.hotzone.specs.ZoneEvents.Heads.{header_on}
+use Rattle.hotzone.specs.ZoneEvents.Readings.{reading_of}
 
 -- The operations that were answered by these deeds are legal on the plain disk that held the content for
 -- certain; and each image that is taken of what the disk may hold stands by its own header for a content

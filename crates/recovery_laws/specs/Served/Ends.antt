@@ -15,8 +15,8 @@ use Rattle.volume_machine.specs.Deeds.{AreDeeds, Deed, answered_over, state_afte
 use Rattle.volume_machine.specs.Runs.{no_plain}
 use Rattle.volume_machine.specs.States.{IsClient, State, open_at}
 use Rattle.volume_machine.specs.declared.keys.Keys.{Keys}
-use Rattle.zone_events.specs.Heads.{header_on}
-use Rattle.zone_events.specs.Readings.{reading_of}
+use Rattle.hotzone.specs.ZoneEvents.Heads.{header_on}
+use Rattle.hotzone.specs.ZoneEvents.Readings.{reading_of}
 
 -- what the blocks of a plain disk hold now, one after the other
 abbrev pub newest_values : List Block → List (List ℕ)

@@ -27,8 +27,8 @@ use Rattle.volume_machine.specs.Runs.{no_plain}
 use Rattle.volume_machine.specs.Seals.{Seals}
 use Rattle.volume_machine.specs.States.{State}
 use Rattle.volume_machine.specs.declared.keys.Keys.{Keys}
-use Rattle.zone_events.specs.Heads.{header_on}
-use Rattle.zone_events.specs.Readings.{reading_of}
+use Rattle.hotzone.specs.ZoneEvents.Heads.{header_on}
+use Rattle.hotzone.specs.ZoneEvents.Readings.{reading_of}
 
 -- ---- behind deeds
 -- The operations that these deeds answered leave a plain disk so, and each block has a value that it

@@ -11,6 +11,7 @@ ghost use Rattle.recovery_laws.specs.Resumed.Starts.{BegunConversionsStart};
 
 use cipher_laws::SectorCipher;
 use crash_laws::{images_are_taken, zones_keep_contents};
+use hotzone::sides_are_told;
 use image_laws::{
     images_stand_for_one_content, mendings_stand, openings_keep_images, openings_mend_images,
 };
@@ -21,7 +22,6 @@ use volume_laws::{
     conversions_stand_where_they_stop, every_conversion_is_served, keys_seal_lawfully,
     works_leave_the_rest,
 };
-use zone_events::sides_are_told;
 use zone_mending::mendings_are_of_zones;
 
 /// While a volume is opened that is being converted each image of each table that its disks tell since

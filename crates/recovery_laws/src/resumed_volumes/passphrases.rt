@@ -10,6 +10,7 @@ use crate::resumed_volumes::laws::{
 };
 use cipher_laws::SectorCipher;
 use crash_laws::{images_are_taken, zones_keep_contents};
+use hotzone::sides_are_told;
 use image_laws::{
     images_stand_for_one_content, mendings_stand, openings_keep_images, openings_mend_images,
     sides_give_their_keys,
@@ -21,7 +22,6 @@ use luks_store::{headers_stand_in_front, metadata_go_by_meaning, used_copies_are
 use volume_laws::{
     deeds_leave_the_rest, every_conversion_is_served, keys_seal_lawfully, works_leave_the_rest,
 };
-use zone_events::sides_are_told;
 use zone_mending::mendings_are_of_zones;
 
 /// Disks tell bytes that stand for a content under a passphrase, and the volume that is being converted

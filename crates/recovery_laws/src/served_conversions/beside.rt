@@ -7,6 +7,7 @@ ghost use Rattle.recovery_laws.specs.Served.Passphrases.{DeedsStandAgainFor, Use
 use crate::resumed_volumes::{begun_conversions_start, conversions_go_on_under_their_passphrase};
 use cipher_laws::SectorCipher;
 use crash_laws::images_are_taken;
+use hotzone::sides_are_told;
 use image_laws::sides_give_their_keys;
 use luks_bin::copies_are_spelt;
 use luks_store::header_copies::copies_are_read;
@@ -16,7 +17,6 @@ use volume_laws::{
     conversions_end_beside_clients, conversions_stand_where_they_stop, deeds_leave_the_rest,
     every_conversion_is_served, keys_seal_lawfully,
 };
-use zone_events::sides_are_told;
 
 /// A volume goes on with a conversion that is guarded by a journal or by checksum, on one disk that
 /// stands for a content under the keys of its sides, while clients use it. Behind any deeds, events of

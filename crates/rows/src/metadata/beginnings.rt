@@ -8,7 +8,7 @@ ghost use Rattle.sector_disk.specs.Geometry.{IsAtom, IsDisk};
 use crate::metadata::stands::{number, small_number};
 use anyhow::{Result, anyhow};
 use luks_init::{Begun, Guard, InitFault, Wish, begin};
-use luks_json::{Cipher, Direction};
+use luks_meta::{Cipher, Direction};
 use luks_rules::Valid;
 use luks_slots::{drawn_len, split_drawn};
 use std::alloc::{AllocError, Global};

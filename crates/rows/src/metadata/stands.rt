@@ -6,7 +6,8 @@ ghost use Rattle.sector_disk.specs.Geometry.{IsDisk};
 
 use anyhow::{Result, anyhow};
 use base_terms::Sizes;
-use luks_json::Meta;
+use luks_json::JsonText;
+use luks_meta::Meta;
 use luks_rules::{CheckError, Valid, check};
 use reenc_meta::{Reenc, place_idle};
 use segment_map::{Direction, Map};

@@ -8,7 +8,7 @@ ghost use Rattle.sector_disk.specs.Geometry.{IsDisk};
 use crate::metadata::wishes::has_offset;
 use anyhow::{Result, anyhow};
 use base_terms::Sizes;
-use luks_json::Meta;
+use luks_meta::Meta;
 use luks_rules::Valid;
 use reenc_meta::{Reenc, Wish};
 use std::alloc::{AllocError, Global};

@@ -2,17 +2,17 @@
 
 ghost use Rattle.std.specs.Prelude.{◌≡◌, IfOk, IfSome, IsTrue, true};
 ghost use Rattle.rows.specs.Wishes.{HasText};
-ghost use Rattle.luks_json.specs.Digests.{IsDigest};
-ghost use Rattle.luks_json.specs.Keyslots.{IsLuks2};
-ghost use Rattle.luks_json.specs.Metas.{IsMeta};
-ghost use Rattle.luks_json.specs.Reencrypts.{IsArea, IsReencrypt};
-ghost use Rattle.luks_json.specs.Segments.{is_sector_size};
+ghost use Rattle.luks_meta.specs.Digests.{IsDigest};
+ghost use Rattle.luks_meta.specs.Keyslots.{IsLuks2};
+ghost use Rattle.luks_meta.specs.Metas.{IsMeta};
+ghost use Rattle.luks_meta.specs.Reencrypts.{IsArea, IsReencrypt};
+ghost use Rattle.luks_meta.specs.Segments.{is_sector_size};
 ghost use Rattle.reenc_meta.specs.Wishes.{HasOffset};
 
 use crate::metadata::stands::read;
 use anyhow::{Result, anyhow};
 use json_members::Entry;
-use luks_json::{
+use luks_meta::{
     Config, Digest, Direction, Encryption, Keyslot, Luks2, Parts, Reencrypt, ReencryptArea,
     Resilience,
 };

@@ -11,19 +11,19 @@ use Rattle.json_members.proofs.listed.Listed.TheSendSync as listed
 use Rattle.json_members.proofs.text.Text.TheSendSync as text
 use Rattle.json_members.specs.contracts.listed.Listed as Listed
 use Rattle.json_members.specs.contracts.text.Text as Text
-use Rattle.luks_json.proofs.names.Hash.TheSendSync as hash
-use Rattle.luks_json.proofs.segment.Encryption.TheSendSync as encryption
-use Rattle.luks_json.proofs.segment.SegmentSize.TheSendSync as segment_size
-use Rattle.luks_json.specs.contracts.config.Config as Config
-use Rattle.luks_json.specs.contracts.config.Requirements as Requirements
-use Rattle.luks_json.specs.contracts.digest.Digest as Digest
-use Rattle.luks_json.specs.contracts.keyslot.Keyslot as Keyslot
-use Rattle.luks_json.specs.contracts.meta.Meta as Meta
-use Rattle.luks_json.specs.contracts.meta.Meta.TheInside as InMeta
-use Rattle.luks_json.specs.contracts.meta.Parts as Parts
-use Rattle.luks_json.specs.contracts.segment.Encryption as Encryption
-use Rattle.luks_json.specs.contracts.segment.Segment as Segment
-use Rattle.luks_json.specs.contracts.token.Token as Token
+use Rattle.luks_meta.proofs.names.Hash.TheSendSync as hash
+use Rattle.luks_meta.proofs.segment.Encryption.TheSendSync as encryption
+use Rattle.luks_meta.proofs.segment.SegmentSize.TheSendSync as segment_size
+use Rattle.luks_meta.specs.contracts.config.Config as Config
+use Rattle.luks_meta.specs.contracts.config.Requirements as Requirements
+use Rattle.luks_meta.specs.contracts.digest.Digest as Digest
+use Rattle.luks_meta.specs.contracts.keyslot.Keyslot as Keyslot
+use Rattle.luks_meta.specs.contracts.meta.Meta as Meta
+use Rattle.luks_meta.specs.contracts.meta.Meta.TheInside as InMeta
+use Rattle.luks_meta.specs.contracts.meta.Parts as Parts
+use Rattle.luks_meta.specs.contracts.segment.Encryption as Encryption
+use Rattle.luks_meta.specs.contracts.segment.Segment as Segment
+use Rattle.luks_meta.specs.contracts.token.Token as Token
 use Rattle.shared_volume.proofs.Sending.JsonValues.{object_send, object_sync}
 use Rattle.shared_volume.proofs.Sending.Keyslots.{keyslot_send, keyslot_sync}
 use Rattle.std.proofs.Common.{List, [], ◌∷◌}

@@ -4,21 +4,21 @@ use denote.Param.Send.{IsSend, plain_send, recorded_send, struct_send, enum_send
 use denote.Param.Send.{plain_sync, recorded_sync, struct_sync, enum_sync}
 use denote.Struct.Declared as S
 use Rattle.json_members.proofs.text.Text.TheSendSync as text
-use Rattle.luks_json.proofs.keyslot.Derivation.TheSendSync as derivation
-use Rattle.luks_json.proofs.keyslot.Priority.TheSendSync as priority
-use Rattle.luks_json.proofs.reencrypt.Direction.TheSendSync as direction
-use Rattle.luks_json.proofs.reencrypt.Mode.TheSendSync as mode
-use Rattle.luks_json.proofs.reencrypt.Resilience.TheSendSync as resilience
-use Rattle.luks_json.specs.contracts.keyslot.Kdf as Kdf
-use Rattle.luks_json.specs.contracts.keyslot.Keyslot as Keyslot
-use Rattle.luks_json.specs.contracts.keyslot.Luks2 as Luks2
-use Rattle.luks_json.specs.contracts.keyslot.OtherArea as OtherArea
-use Rattle.luks_json.specs.contracts.keyslot.OtherSlot as OtherSlot
-use Rattle.luks_json.specs.contracts.keyslot.Priority as Priority
-use Rattle.luks_json.specs.contracts.keyslot.SlotArea as SlotArea
-use Rattle.luks_json.specs.contracts.keyslot.Splitter as Splitter
-use Rattle.luks_json.specs.contracts.reencrypt.Reencrypt as Reencrypt
-use Rattle.luks_json.specs.contracts.reencrypt.ReencryptArea as ReencryptArea
+use Rattle.luks_meta.proofs.keyslot.Derivation.TheSendSync as derivation
+use Rattle.luks_meta.proofs.keyslot.Priority.TheSendSync as priority
+use Rattle.luks_meta.proofs.reencrypt.Direction.TheSendSync as direction
+use Rattle.luks_meta.proofs.reencrypt.Mode.TheSendSync as mode
+use Rattle.luks_meta.proofs.reencrypt.Resilience.TheSendSync as resilience
+use Rattle.luks_meta.specs.contracts.keyslot.Kdf as Kdf
+use Rattle.luks_meta.specs.contracts.keyslot.Keyslot as Keyslot
+use Rattle.luks_meta.specs.contracts.keyslot.Luks2 as Luks2
+use Rattle.luks_meta.specs.contracts.keyslot.OtherArea as OtherArea
+use Rattle.luks_meta.specs.contracts.keyslot.OtherSlot as OtherSlot
+use Rattle.luks_meta.specs.contracts.keyslot.Priority as Priority
+use Rattle.luks_meta.specs.contracts.keyslot.SlotArea as SlotArea
+use Rattle.luks_meta.specs.contracts.keyslot.Splitter as Splitter
+use Rattle.luks_meta.specs.contracts.reencrypt.Reencrypt as Reencrypt
+use Rattle.luks_meta.specs.contracts.reencrypt.ReencryptArea as ReencryptArea
 use Rattle.shared_volume.proofs.Sending.JsonValues.{object_send, object_sync}
 use Rattle.std.proofs.option.Option.TheSendSync as option
 

@@ -18,7 +18,7 @@ use Rattle.volume_core.specs.WorkerLoop.Answering.{HasAnswered}
 use Rattle.volume_laws.proofs.WorkerRuns.WorkJoins.{worked_joined, worked_none, worked_one}
 use Rattle.volume_laws.specs.WorkerRuns.Conversions.{HasConverted, MayConvert}
 use Rattle.volume_laws.specs.WorkerRuns.Steps.{HasWorked, told_by}
-use Rattle.zone_events.specs.Readings.{reading_of}
+use Rattle.hotzone.specs.ZoneEvents.Readings.{reading_of}
 
 module _ {C : Type 0} (seal unseal : C → ℕ → List ℕ → List ℕ) where
   pub answered_none : (volume : State (Keys C)) → HasAnswered seal unseal volume volume []

@@ -8,7 +8,7 @@ use Rattle.volume_machine.specs.Seals.{seals_of}
 use Rattle.volume_machine.specs.States.{State}
 use Rattle.volume_machine.specs.declared.keys.Keys.{Keys}
 use Rattle.volume_laws.specs.WorkerRuns.Steps.{HasWorked}
-use Rattle.zone_events.specs.Readings.{reading_of}
+use Rattle.hotzone.specs.ZoneEvents.Readings.{reading_of}
 
 -- Its header goes on to be read so, and it to be in order; and the keys and the size of its blocks
 -- stay.

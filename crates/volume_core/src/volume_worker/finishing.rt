@@ -11,7 +11,7 @@ ghost use Rattle.volume_machine.specs.Seals.{seals_of};
 ghost use Rattle.volume_machine.specs.States.{IsIdle};
 ghost use Rattle.volume_laws.specs.WorkerRuns.Conversions.{HasConverted, IsFaultless, MayConvert};
 ghost use Rattle.volume_laws.specs.WorkerRuns.Steps.{HasWorked};
-ghost use Rattle.zone_events.specs.Readings.{reading_of};
+ghost use Rattle.hotzone.specs.ZoneEvents.Readings.{reading_of};
 
 use crate::Volume;
 use crate::volume_worker::telling::{converted_of, told};

@@ -5,7 +5,7 @@ ghost use Rattle.reenc_worker.specs.declared.ends.WorkAnswer.TheVariants.{Ended}
 ghost use Rattle.volume_core.specs.Zones.{worked_of};
 ghost use Rattle.volume_core.specs.WorkerLoop.Telling.{converted_in};
 ghost use Rattle.volume_laws.specs.WorkerRuns.Steps.{told_by};
-ghost use Rattle.zone_events.specs.Promises.{answer_of};
+ghost use Rattle.hotzone.specs.ZoneEvents.Promises.{answer_of};
 
 use crate::{Volume, Worked, ZoneFault};
 use cipher_laws::SectorCipher;

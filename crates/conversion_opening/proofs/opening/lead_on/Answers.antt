@@ -9,7 +9,7 @@ use Rattle.hotzone.proofs.CommitLemmas.{has-as}
 use Rattle.luks_store.specs.Devices.{device_of}
 use Rattle.volume_core.specs.Zones.{IsReadBy}
 use Rattle.volume_laws.specs.Converting.{IsInOrder}
-use Rattle.zone_events.specs.Readings.{reading_of}
+use Rattle.hotzone.specs.ZoneEvents.Readings.{reading_of}
 
 -- a call of the repair failed
 pub returns-in-Err-clause-left : goal.returns-in-Err-clause-left

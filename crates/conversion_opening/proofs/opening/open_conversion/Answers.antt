@@ -11,7 +11,7 @@ use Rattle.luks_store.specs.Devices.{device_of}
 use Rattle.sector_disk.specs.Geometry.{IsAtom}
 use Rattle.volume_core.specs.Zones.{IsReadBy}
 use Rattle.volume_laws.specs.Converting.{IsInOrder}
-use Rattle.zone_events.specs.Readings.{reading_of}
+use Rattle.hotzone.specs.ZoneEvents.Readings.{reading_of}
 
 -- memory for the lanes was wanted
 pub returns-in-Err-clause-unopened : goal.returns-in-Err-clause-unopened

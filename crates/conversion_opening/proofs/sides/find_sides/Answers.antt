@@ -2,7 +2,7 @@ use Rattle.std.proofs.Common.{subst}
 use Rattle.conversion_opening.proofs.CauseLemmas.{no_new, no_old}
 use Rattle.conversion_opening.proofs.SegmentLemmas.{new_placed, new_sectors, old_placed, old_sectors}
 use Rattle.conversion_opening.proofs.sides.find_sides.Goals as goal
-use Rattle.luks_json.specs.Metas.{IsMeta}
+use Rattle.luks_meta.specs.Metas.{IsMeta}
 
 pub segment_cipher-requires-clause-sector : goal.segment_cipher-requires-clause-sector
 segment_cipher-requires-clause-sector c =

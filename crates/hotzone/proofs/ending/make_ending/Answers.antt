@@ -4,7 +4,7 @@ use Rattle.hotzone.proofs.EndLemmas.{Ends, ends-as_long, ends-here, is-ending, i
 use Rattle.hotzone.proofs.GoneLemmas.{is-under_way, may-here}
 use Rattle.hotzone.proofs.UnmadeLemmas.{unmade-refused}
 use Rattle.hotzone.specs.Endings.{IsFinishing, wiped}
-use Rattle.luks_json.specs.declared.meta.Parts.{Parts}
+use Rattle.luks_meta.specs.declared.meta.Parts.{Parts}
 use Rattle.luks_rules.specs.declared.valid.Checked.{Checked}
 use Rattle.reenc_meta.specs.Finishes.{MayFinish}
 use Rattle.hotzone.proofs.ending.make_ending.Goals as goal

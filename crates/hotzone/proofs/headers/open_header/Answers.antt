@@ -4,7 +4,7 @@ use Rattle.hotzone.proofs.GoneLemmas.{Goes, goes-as_long, goes-by, goes-here, is
 use Rattle.hotzone.proofs.MadeLemmas.{unmade-by}
 use Rattle.hotzone.specs.Headings.{IsUnmade, IsOpening, Opens}
 use Rattle.hotzone.specs.declared.worker.NextHeader.{NextHeader}
-use Rattle.luks_json.specs.declared.meta.Parts.{Parts}
+use Rattle.luks_meta.specs.declared.meta.Parts.{Parts}
 use Rattle.luks_rules.specs.declared.shape.Progress.{Progress}
 use Rattle.reenc_meta.specs.Moves.{MayOpen, opened}
 use Rattle.hotzone.proofs.headers.open_header.Goals as goal

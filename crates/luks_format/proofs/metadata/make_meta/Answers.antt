@@ -1,8 +1,8 @@
 use Rattle.std.proofs.Common.{◌∙◌, ap₂, sym, subst}
 use Rattle.luks_format.proofs.MetaLemmas.{meta-text}
 use Rattle.luks_format.specs.Metadata.{digest_for, parts_with}
-use Rattle.luks_json.specs.Metas.{IsMeta}
-use Rattle.luks_json.specs.declared.meta.Parts.{Parts}
+use Rattle.luks_meta.specs.Metas.{IsMeta}
+use Rattle.luks_meta.specs.declared.meta.Parts.{Parts}
 use Rattle.luks_format.proofs.metadata.make_meta.Goals as goal
 
 pub new-requires : goal.new-requires

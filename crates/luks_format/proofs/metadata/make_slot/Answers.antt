@@ -1,6 +1,6 @@
 use Rattle.std.proofs.Common.{ℕ, ◌*◌, List, ◌∙◌, ap}
 use Rattle.luks_format.specs.Metadata.{keyslot_for}
-use Rattle.luks_json.specs.declared.keyslot.Luks2.{Luks2}
+use Rattle.luks_meta.specs.declared.keyslot.Luks2.{Luks2}
 use Rattle.luks_slots.specs.NewSlots.{slot_for}
 use Rattle.luks_format.proofs.metadata.make_slot.Goals as goal
 

@@ -3,7 +3,7 @@ use Rattle.std.proofs.Common.{sym}
 use Rattle.base_terms.specs.declared.disk_sizes.Sizes.{Sizes}
 use Rattle.luks_init.proofs.BeginLemmas.{ready-begins, too-long, unready}
 use Rattle.luks_init.specs.Begins.{unready_by}
-use Rattle.luks_json.specs.declared.meta.Parts.{Parts}
+use Rattle.luks_meta.specs.declared.meta.Parts.{Parts}
 use Rattle.luks_slots.specs.KeyMaking.Drawings.{draw}
 use Rattle.luks_rules.specs.Idles.{idle_of}
 use Rattle.luks_rules.specs.declared.idle.Idle.{Idle}

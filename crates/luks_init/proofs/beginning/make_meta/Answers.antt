@@ -5,8 +5,8 @@ use Rattle.base_terms.specs.declared.disk_sizes.Sizes.{Sizes}
 use Rattle.luks_init.proofs.BeginLemmas.{has-begun}
 use Rattle.luks_init.proofs.WishLemmas.{wish-of}
 use Rattle.luks_init.specs.Metadata.{wish_for, wish_with}
-use Rattle.luks_json.specs.Keyslots.{IsLuks2}
-use Rattle.luks_json.specs.declared.digest.Digest.{Digest}
+use Rattle.luks_meta.specs.Keyslots.{IsLuks2}
+use Rattle.luks_meta.specs.declared.digest.Digest.{Digest}
 use Rattle.luks_slots.specs.KeyMaking.Drawings.{draw}
 use Rattle.luks_rules.specs.Idles.{idle_of}
 use Rattle.luks_slots.specs.Unlocks.{matches}

@@ -3,7 +3,7 @@ use Rattle.serde_json.specs.Errors.{IsMemory}
 use Rattle.serde_json.specs.View.{view}
 use Rattle.json_members.specs.declared.faults.JsonFaultKind.TheVariants.{NotJson}
 use Rattle.json_members.specs.Fields.{Gives}
-use Rattle.luks_json.specs.declared.meta.Parts.{Parts}
+use Rattle.luks_meta.specs.declared.meta.Parts.{Parts}
 use Rattle.luks_json.proofs.MetaLemmas.{from_value, no_value}
 use Rattle.luks_json.proofs.meta.read_text.Goals as goal
 

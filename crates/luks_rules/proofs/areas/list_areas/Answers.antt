@@ -1,6 +1,6 @@
 use Rattle.std.proofs.Common.{◌∙◌, ◌++◌, ◌+◌, ℕ, drop, ap}
 use Rattle.std.specs.List.{filter_map}
-use Rattle.luks_json.specs.declared.keyslot.Keyslot.{Keyslot}
+use Rattle.luks_meta.specs.declared.keyslot.Keyslot.{Keyslot}
 use Rattle.luks_rules.specs.Areas.{area_of, areas_of}
 use Rattle.luks_rules.proofs.KeptLemmas.{found_more, found_none, found_all}
 use Rattle.luks_rules.proofs.areas.list_areas.Goals as goal

@@ -3,7 +3,7 @@ use Rattle.std.proofs.Common.{arith, length-take}
 use Rattle.std.proofs.lemmas.Grind.{common_steps}
 use Rattle.std.proofs.lemmas.List.Sums.{sum_by_more, count_by-le-length}
 use Rattle.std.specs.List.{sum_by}
-use Rattle.luks_json.specs.declared.digest.Digest.{Digest}
+use Rattle.luks_meta.specs.declared.digest.Digest.{Digest}
 use Rattle.luks_rules.specs.References.{times_listed, lists}
 use Rattle.luks_rules.proofs.references.count_listings.Goals as goal
 

@@ -1,7 +1,7 @@
 use Rattle.std.proofs.Common.{◌≡◌, ◌∙◌, ◌<◌, ◌+◌, ◌-◌, ℕ, List, length, get_or, take, ap, arith}
 use Rattle.std.specs.List.{sum_by}
 use Rattle.std.proofs.lemmas.List.Sums.{sum_by_more}
-use Rattle.luks_json.specs.declared.segment.Segment.{Segment}
+use Rattle.luks_meta.specs.declared.segment.Segment.{Segment}
 use Rattle.luks_rules.specs.Segments.{live_bytes}
 use Rattle.luks_rules.proofs.segments.lacks_block.Goals as goal
 

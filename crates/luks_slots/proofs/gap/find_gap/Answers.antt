@@ -1,6 +1,6 @@
 use Rattle.std.proofs.Common.{◌<◌, refl, sym, ◌∙◌, ap, subst, arith}
 use Rattle.base_terms.specs.declared.disk_sizes.Sizes.{Sizes}
-use Rattle.luks_json.specs.declared.meta.Parts.{Parts}
+use Rattle.luks_meta.specs.declared.meta.Parts.{Parts}
 use Rattle.luks_rules.specs.Overlaps.{IsInOrder}
 use Rattle.luks_slots.proofs.GapLemmas.{lowest-by, no-room-by}
 use Rattle.luks_slots.specs.Gaps.{runs_begin, runs_end, taken, widest_in}

@@ -1,6 +1,6 @@
 use Rattle.std.proofs.Common.{◌≡◌, ◌++◌, drop}
 use Rattle.std.specs.List.{filter}
-use Rattle.luks_json.specs.Configs.{is_foreign}
+use Rattle.luks_meta.specs.Configs.{is_foreign}
 use Rattle.reenc_meta.proofs.finishing.keep_texts.Given as goal
 
 abbrev pub invariant-loop-text : goal.invariant-loop-text

@@ -1,7 +1,7 @@
 use Rattle.std.proofs.Common.{sym, ◌∙◌, subst}
 use Rattle.base_terms.specs.declared.disk_sizes.Sizes.{Sizes}
-use Rattle.luks_json.specs.Metas.{IsMeta}
-use Rattle.luks_json.specs.declared.meta.Parts.{Parts}
+use Rattle.luks_meta.specs.Metas.{IsMeta}
+use Rattle.luks_meta.specs.declared.meta.Parts.{Parts}
 use Rattle.reenc_meta.specs.Placements.{IsIdlePlacement}
 use Rattle.reenc_meta.proofs.IdleLemmas.{placed_right}
 use Rattle.reenc_meta.proofs.placement.place_idle.Goals as goal

@@ -1,6 +1,6 @@
 use Rattle.std.proofs.Common.{◌∙◌, ◌^◌, ◌<◌, ℕ, List, subst, sym}
 use Rattle.std.specs.List.{All}
-use Rattle.luks_json.specs.declared.keyslot.Keyslot.{Keyslot}
+use Rattle.luks_meta.specs.declared.keyslot.Keyslot.{Keyslot}
 use Rattle.reenc_meta.specs.Layouts.{HasPlace, whole_on}
 use Rattle.reenc_meta.specs.Runs.{runs_of}
 use Rattle.reenc_meta.specs.Starts.{lowest_free}

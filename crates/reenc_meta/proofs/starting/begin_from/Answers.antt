@@ -1,5 +1,5 @@
 use Rattle.std.proofs.Common.{◌≡◌, ◌∙◌, [], ◌∷◌, arith, subst, sym}
-use Rattle.luks_json.specs.Metas.{IsMeta}
+use Rattle.luks_meta.specs.Metas.{IsMeta}
 use Rattle.reenc_meta.specs.Starts.{IsStarted}
 use Rattle.reenc_meta.proofs.StartedLemmas.{is-started, only-one, started-meta}
 use Rattle.reenc_meta.proofs.starting.begin_from.Goals as goal

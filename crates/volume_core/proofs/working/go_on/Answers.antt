@@ -1,7 +1,7 @@
 use Rattle.std.proofs.Common.{ap, refl, ◌∙◌}
 use Rattle.volume_core.specs.Turns.{ends, finds_broken, leaves, steps, stops, takes, waits}
 use Rattle.volume_core.proofs.working.go_on.Goals as goal
-use Rattle.zone_events.specs.Promises.{breaks}
+use Rattle.hotzone.specs.ZoneEvents.Promises.{breaks}
 
 pub returns-then-broken : goal.returns-then-broken
 returns-then-broken g c =

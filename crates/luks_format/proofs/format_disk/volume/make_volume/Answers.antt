@@ -5,7 +5,7 @@ use Rattle.luks_format.specs.DiskFormat.Fitting.{unfit_by}
 use Rattle.luks_bin.specs.Fields.{is_size}
 use Rattle.luks_format.proofs.RulesLemmas.{key-bounds}
 use Rattle.luks_format.specs.Drawings.{draw}
-use Rattle.luks_json.specs.declared.meta.Parts.{Parts}
+use Rattle.luks_meta.specs.declared.meta.Parts.{Parts}
 use Rattle.luks_rules.specs.Rules.{first_fault}
 use Rattle.luks_slots.specs.Functions.{named_cipher}
 use Rattle.luks_slots.specs.NewSlots.{IsSlotAt}

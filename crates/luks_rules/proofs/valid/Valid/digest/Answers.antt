@@ -1,6 +1,6 @@
 use Rattle.std.proofs.Common.{◌∙◌, sym, ap, subst}
 use Rattle.std.specs.List.{AllByRecursion}
-use Rattle.luks_json.specs.Digests.{IsDigest}
+use Rattle.luks_meta.specs.Digests.{IsDigest}
 use Rattle.luks_rules.proofs.PlacedLemmas.{value_holds}
 use Rattle.luks_rules.proofs.valid.Valid.digest.Goals as goal
 

@@ -1,7 +1,7 @@
 use Rattle.std.proofs.Common.{◌≡◌, true, sym, subst}
 use Rattle.base64.specs.GeneralPurpose.{IsBytes}
-use Rattle.luks_json.specs.Digests.{IsDigest}
-use Rattle.luks_json.specs.declared.digest.Digest.{Digest}
+use Rattle.luks_meta.specs.Digests.{IsDigest}
+use Rattle.luks_meta.specs.declared.digest.Digest.{Digest}
 use Rattle.luks_slots.proofs.KeyMaking.DigestLemmas.{digest-text, same-key}
 use Rattle.luks_slots.specs.Unlocks.{matches}
 use Rattle.luks_slots.proofs.new_keys.digest.make_digest.Goals as goal

@@ -1,6 +1,6 @@
 use Rattle.std.proofs.Common.{ℕ, ◌+◌, List, drop, sym, ◌∙◌, ap, arith}
 use Rattle.std.proofs.lemmas.List.{at_drop_all, at_drop_more}
-use Rattle.luks_json.specs.declared.keyslot.Keyslot.{Keyslot}
+use Rattle.luks_meta.specs.declared.keyslot.Keyslot.{Keyslot}
 use Rattle.luks_slots.proofs.DiskLemmas.{unwritten-joined}
 use Rattle.luks_slots.proofs.SlotLemmas.{first-here, first-later, first-none}
 use Rattle.luks_slots.specs.Unlocks.{first_key, key_at}

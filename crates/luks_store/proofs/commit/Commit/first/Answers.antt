@@ -1,6 +1,6 @@
 use Rattle.std.proofs.Common.{ap, arith}
 use Rattle.luks_bin.proofs.FieldLemmas.{size-most}
-use Rattle.luks_json.specs.declared.meta.Parts.{Parts}
+use Rattle.luks_meta.specs.declared.meta.Parts.{Parts}
 use Rattle.luks_store.proofs.commit.Commit.first.Goals as goal
 
 pub overflow_add-before : goal.overflow_add-before

@@ -1,7 +1,7 @@
 use Rattle.std.proofs.Common.{◌∙◌, ap, subst}
 use Rattle.luks_store.proofs.StoredLemmas.{room-kept, rules-kept, size-kept}
 use Rattle.json_members.specs.Entries.{IsRising}
-use Rattle.luks_json.specs.declared.meta.Parts.{Parts}
+use Rattle.luks_meta.specs.declared.meta.Parts.{Parts}
 use Rattle.luks_store.specs.declared.loaded.Stored.{Stored}
 use Rattle.luks_store.specs.Loads.{IsStored}
 use Rattle.luks_store.proofs.loaded.Loaded.is_stored.Goals as goal

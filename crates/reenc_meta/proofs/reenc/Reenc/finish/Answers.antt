@@ -1,8 +1,8 @@
 use Rattle.std.proofs.Common.{◌≡◌, ◌∙◌, ◌*◌, ◌<◌, ◌^◌, map, not, sym, ap, subst}
 use Rattle.std.specs.List.{filter}
 use Rattle.base_terms.specs.declared.disk_sizes.Sizes.{Sizes}
-use Rattle.luks_json.specs.Metas.{IsMeta}
-use Rattle.luks_json.specs.declared.meta.Parts.{Parts}
+use Rattle.luks_meta.specs.Metas.{IsMeta}
+use Rattle.luks_meta.specs.declared.meta.Parts.{Parts}
 use Rattle.luks_rules.specs.Plans.{blocks_in}
 use Rattle.reenc_meta.specs.Finishes.{IsFinished, finished, finished_digest, finished_segment}
 use Rattle.reenc_meta.specs.Finishes.{is_dropped, is_new_whole, is_old_digest, requirements_after}

@@ -1,8 +1,8 @@
 use Rattle.std.proofs.Common.{◌≡◌, ◌∙◌, map, sym, ap, subst}
 use Rattle.std.specs.List.{All}
 use Rattle.base_terms.specs.declared.disk_sizes.Sizes.{Sizes}
-use Rattle.luks_json.specs.Metas.{IsMeta}
-use Rattle.luks_json.specs.declared.meta.Parts.{Parts}
+use Rattle.luks_meta.specs.Metas.{IsMeta}
+use Rattle.luks_meta.specs.declared.meta.Parts.{Parts}
 use Rattle.reenc_meta.specs.Layouts.{HasPlace, laid_out_by, listed_by, segments_by, whole_on}
 use Rattle.reenc_meta.specs.Layouts.{wholes_of}
 use Rattle.reenc_meta.specs.Moves.{IsGoneTo}

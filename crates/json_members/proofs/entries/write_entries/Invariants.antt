@@ -1,8 +1,0 @@
-use Rattle.std.proofs.Common.{◌≡◌, drop}
-use Rattle.json_members.specs.Entries.{objects_onto, objects_members}
-use Rattle.json_members.proofs.entries.write_entries.Given as goal
-
-abbrev pub invariant-loop-i : goal.invariant-loop-i
-invariant-loop-i g l =
-    objects_onto g.E.Entry.members (drop l.i l.entries) l.object
-    ≡ objects_members g.E.Entry.members l.entries

@@ -1,9 +1,0 @@
-use Rattle.luks_json.specs.Metas.{meta_from, IsMeta}
-use Rattle.luks_json.proofs.MetaLemmas.{meta_from_right}
-use Rattle.json_members.proofs.ReadLemmas.{right_at}
-use Rattle.luks_json.proofs.meta.Meta.read.Goals as goal
-
-pub invariant_of-result : goal.invariant_of-result
-invariant_of-result c =
-    right_at (meta_from c.args.hdr_size c.args.text.now) c.in-Ok.parts IsMeta c.in-Ok.ensures
-    (meta_from_right c.args.hdr_size c.args.text.now)
