@@ -14,7 +14,7 @@ use reenc_tool::{Ended, FaultText, RefusalText, run};
 use std::alloc::Global;
 use std::sync::Wait;
 use std::thread::Threads;
-use test_script::{Program, Ran, ScriptGate, text_of};
+use test_script::{Finished, Program, ScriptGate, text_of};
 
 /// The commands of `reencd`, by its `run`.
 #[derive(Drop)]
@@ -39,7 +39,7 @@ fn texts_of(alloc: Global, ended: &Ended<'_, MemDisk, MemLink>) -> Result<(Strin
 }
 
 /// A command that ended so.
-fn ran(alloc: Global, ended: Ended<'_, MemDisk, MemLink>) -> Result<Ran> {
+fn told(alloc: Global, ended: Ended<'_, MemDisk, MemLink>) -> Result<Finished> {
     let texts = texts_of(alloc, &ended);
     let Ended {
         status,
@@ -51,7 +51,7 @@ fn ran(alloc: Global, ended: Ended<'_, MemDisk, MemLink>) -> Result<Ran> {
         ..
     } = ended;
     let (cause, why) = texts?;
-    Ok(Ran {
+    Ok(Finished {
         status,
         cause,
         memory,
@@ -71,9 +71,9 @@ impl<T: Threads + Wait + Sync> Program for Tool<'_, T> {
         seeds: &mut FixedSeeds,
         out: &mut ListSink,
         gate: &ScriptGate<HostRuntime>,
-    ) -> Result<Ran> {
+    ) -> Result<Finished> {
         let alloc = self.alloc;
-        ran(
+        told(
             alloc,
             run(self.threads, alloc, words, bay, seeds, out, gate),
         )

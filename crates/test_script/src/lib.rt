@@ -99,5 +99,5 @@ mod world;
 pub use meeting::ScriptGate;
 pub use metadata::text_of;
 pub use numbers::{number, small_number};
-pub use program::{Program, Ran};
+pub use program::{Finished, Program};
 pub use showing::show_script;

@@ -14,7 +14,7 @@ use nbd_session::SessionEnd;
 
 /// A command that was run.
 #[derive(Drop)]
-pub struct Ran {
+pub struct Finished {
     /// The exit status.
     pub status: u8,
     /// Its cause, in words.
@@ -47,7 +47,7 @@ pub trait Program {
         seeds: &mut FixedSeeds,
         out: &mut ListSink,
         gate: &ScriptGate<HostRuntime>,
-    ) -> Result<Ran>;
+    ) -> Result<Finished>;
 
     /// The text of the metadata with which a conversion of a volume begins, under a new key of its
     /// own; or what stands in the way. Words are the passphrase, the bytes of the key and of a sector, the

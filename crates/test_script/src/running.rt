@@ -1,7 +1,7 @@
 // Commands that are run, and what they come to.
 
 use crate::disks::{calls_of, left_on};
-use crate::program::{Program, Ran};
+use crate::program::{Finished, Program};
 use crate::sessions::{put_of, sessions_of};
 use crate::setup::{Heard, Setup};
 use crate::world::World;
@@ -91,15 +91,15 @@ impl Outcome {
 }
 
 /// How a command ended, in words, and its sessions.
-fn end_of(alloc: Global, ran: &Ran) -> Result<End> {
-    let Ran {
+fn end_of(alloc: Global, finished: &Finished) -> Result<End> {
+    let Finished {
         status,
         cause,
         memory,
         sessions,
         links,
         ..
-    } = ran;
+    } = finished;
     let wanted = if *memory { " wanting memory" } else { "" };
     let text = format!(in alloc; "{status} {cause}{wanted}")?;
     let put = put_of(alloc, links.as_slice())?;
@@ -112,15 +112,15 @@ fn end_of(alloc: Global, ran: &Ran) -> Result<End> {
     })
 }
 
-/// What a command came to that ran so, and of which this was heard.
-fn outcome_of(alloc: Global, ran: Ran, heard: Heard) -> Result<Outcome> {
-    let end = end_of(alloc, &ran)?;
-    let Ran {
+/// What a command came to that ended so, and of which this was heard.
+fn outcome_of(alloc: Global, finished: Finished, heard: Heard) -> Result<Outcome> {
+    let end = end_of(alloc, &finished)?;
+    let Finished {
         why,
         disk,
         header,
         ..
-    } = ran;
+    } = finished;
     Ok(Outcome {
         end,
         why,
@@ -140,7 +140,7 @@ pub(crate) fn run_on(
     clients: &[Vec<u8>],
 ) -> Result<Outcome> {
     let mut setup = Setup::new(rt, world, words, disks, clients)?;
-    let ran = setup.run(program)?;
+    let finished = setup.run(program)?;
     let heard = setup.heard(rt.alloc())?;
-    outcome_of(rt.alloc(), ran, heard)
+    outcome_of(rt.alloc(), finished, heard)
 }

@@ -1,7 +1,7 @@
 // What a command is run with: its words, and the bay, the seeds, the output and the gate around it.
 
 use crate::meeting::ScriptGate;
-use crate::program::{Program, Ran};
+use crate::program::{Finished, Program};
 use crate::world::World;
 use anyhow::{Result, anyhow};
 use base_terms::Bytes;
@@ -161,7 +161,7 @@ impl Setup {
     }
 
     /// Runs the command.
-    pub(crate) fn run(&mut self, program: &impl Program) -> Result<Ran> {
+    pub(crate) fn run(&mut self, program: &impl Program) -> Result<Finished> {
         let Setup {
             words,
             bay,
