@@ -1,5 +1,5 @@
-"""Scripts of the crate `rows` (crates/rows/src/lines.rt): what their lines settle, and which of
-them show something."""
+"""Scripts of the crate `rows` (crates/test_script/src/lines.rt): what their lines settle, and which
+of them show something."""
 
 import os
 

@@ -1,7 +1,7 @@
 // What a script has settled: names, disks, key files, and how its next command is run.
 
 use crate::bytes::{Lexicon, rising};
-use crate::disks::{Limit, Shelf, disk_with, new_shelf};
+use crate::disks::{Limit, Shelf, new_shelf};
 use crate::draws::drawn_requests;
 use crate::editing::edited;
 use crate::headers::change;
@@ -226,6 +226,14 @@ impl World {
         Ok(())
     }
 
+    /// The disk.
+    pub(crate) fn disk(&self) -> Result<&Shelf> {
+        match self.disks.first() {
+            Some(shelf) => Ok(shelf),
+            None => Err(anyhow!("no disk")),
+        }
+    }
+
     /// The disks of the next command, whose calls fail or are stopped as is settled.
     pub(crate) fn take_disks(&self, alloc: Global) -> Result<Vec<(String, MemDisk)>> {
         let mut disks = Vec::new(alloc);
@@ -234,9 +242,7 @@ impl World {
                 Some(calls) if disks.is_empty() => Limit::Stop(calls),
                 _ => Limit::Fail(self.next.fails_of(shelf.name.as_str())),
             };
-            let mut disk = disk_with(alloc, shelf.atom, shelf.bytes.as_slice(), limit)?;
-            disk.set_tail(shelf.tail);
-            disks.push((shelf.name.clone()?, disk))?;
+            disks.push(shelf.disk(alloc, shelf.bytes.as_slice(), limit)?)?;
         }
         Ok(disks)
     }

@@ -41,11 +41,11 @@ fn heard(told: Option<Told>, converted: Converted) -> Told {
     }
 }
 
-/// Where it has a step, holds the first operation that is admitted until the worker has come to the
+/// A gate that a script settles. Where it has a step, holds the first operation that is admitted until the worker has come to the
 /// step of this number, or, where that is 0, until a second operation is admitted; and holds the
 /// worker there until then. It keeps what it is told of a conversion, and what people should know.
 #[derive(Drop)]
-pub(crate) struct ScriptGate<R: Clock + Drop> {
+pub struct ScriptGate<R: Clock + Drop> {
     clock: R,
     step: Option<u64>,
     admitted: AtomicU64,

@@ -4,6 +4,7 @@ ghost use Rattle.std.specs.Prelude.{IfOk};
 ghost use Rattle.reenc_meta.specs.Placements.{all_atoms};
 ghost use Rattle.sector_disk.specs.Geometry.{IsDisk};
 
+use crate::numbers::{number, small_number};
 use anyhow::{Result, anyhow};
 use base_terms::Sizes;
 use luks_json::JsonText;
@@ -25,14 +26,6 @@ pub(crate) struct Stand {
     pub(crate) text: String,
 }
 
-/// A number of a row.
-pub(crate) fn number(word: &str) -> Result<u64> {
-    match word.parse() {
-        Ok(number) => Ok(number),
-        Err(_) => Err(anyhow!("no number")),
-    }
-}
-
 /// The sizes, of disks that there may be.
 fn known(sizes: Sizes) -> Result<Sizes>
     ensures { IfOk result (λ known. IsDisk known.atom (all_atoms known)) }
@@ -44,14 +37,6 @@ fn known(sizes: Sizes) -> Result<Sizes>
         return Err(anyhow!("disks of so many atoms"));
     }
     Ok(sizes)
-}
-
-/// A number of 32 bits of a row.
-pub(crate) fn small_number(word: &str) -> Result<u32> {
-    match word.parse() {
-        Ok(number) => Ok(number),
-        Err(_) => Err(anyhow!("no number of 32 bits")),
-    }
 }
 
 /// The sizes of a row's disks.

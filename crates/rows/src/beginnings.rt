@@ -5,13 +5,13 @@ ghost use Rattle.luks_init.specs.Wishes.{IsWish};
 ghost use Rattle.reenc_meta.specs.Placements.{all_atoms};
 ghost use Rattle.sector_disk.specs.Geometry.{IsAtom, IsDisk};
 
-use crate::metadata::stands::{number, small_number};
 use anyhow::{Result, anyhow};
 use luks_init::{Begun, Guard, InitFault, Wish, begin};
 use luks_meta::{Cipher, Direction};
 use luks_rules::Valid;
 use luks_slots::{drawn_len, split_drawn};
 use std::alloc::{AllocError, Global};
+use test_script::{number, small_number};
 
 /// Whether a wish is one for a disk of such atoms.
 fn is_wish(wish: &Wish, atom: u32) -> bool

@@ -1,50 +1,56 @@
 // What comes of the lines of a script.
 
-use crate::disks::{Shelf, calls_of, left_on, sum_of};
+use crate::digests::sum_of;
+use crate::disks::{Shelf, calls_of, left_on};
 use crate::lines::{Line, line_of};
 use crate::metadata::show_metadata;
-use crate::running::{Outcome, run_on, told_of_words};
-use crate::stops::{show_faults, show_stops};
+use crate::program::Program;
+use crate::running::{Outcome, run_on};
+use crate::setup::{Heard, told_of_words};
+use crate::stops::Trial;
 use crate::vectors::value_of;
 use crate::world::{Next, World};
 use anyhow::{Context, Result};
 use memory_disks::MemDisk;
 use std::fs;
-use std::sync::Wait;
-use std::thread::Threads;
 
 /// The file of the names and the key files that all scripts have.
 const NAMES: &str = "names";
 
-/// Shows the device calls of a disk that was handed back, and what is left of it, which it has from
-/// then on.
-fn show_disk(
+/// Keeps what is left of a disk that was handed back, and shows its device calls and what is left,
+/// unless less is told.
+fn keep_disk(
     rt: &HostRuntime,
     what: &str,
     disk: Option<MemDisk>,
     left: &str,
     shelf: Option<&mut Shelf>,
+    is_loose: bool,
 ) -> Result<()> {
     let (Some(disk), Some(shelf)) = (disk, shelf) else {
         return Ok(());
     };
     let calls = calls_of(&disk);
-    let bytes = left_on(rt.alloc(), disk, left)?;
-    let sum = sum_of(rt.alloc(), bytes.as_slice())?;
-    println!(rt; "  {what}: {calls} calls, {sum}")?;
-    shelf.bytes = bytes;
+    shelf.bytes = left_on(rt.alloc(), disk, left)?;
+    if !is_loose {
+        let sum = sum_of(rt.alloc(), shelf.bytes.as_slice())?;
+        println!(rt; "  {what}: {calls} calls, {sum}")?;
+    }
     Ok(())
 }
 
-/// Keeps what is left of a disk that was handed back, of whose calls nothing is told.
-fn keep_disk(
-    rt: &HostRuntime,
-    disk: Option<MemDisk>,
-    left: &str,
-    shelf: Option<&mut Shelf>,
-) -> Result<()> {
-    if let (Some(disk), Some(shelf)) = (disk, shelf) {
-        shelf.bytes = left_on(rt.alloc(), disk, left)?;
+/// Shows lines behind a command.
+fn show_texts(rt: &HostRuntime, before: &str, texts: &[String]) -> Result<()> {
+    for text in texts {
+        println!(rt; "  {before}{text}")?;
+    }
+    Ok(())
+}
+
+/// Shows a line behind a command, if there is one.
+fn show_text(rt: &HostRuntime, text: &str) -> Result<()> {
+    if !text.is_empty() {
+        println!(rt; "  {text}")?;
     }
     Ok(())
 }
@@ -52,74 +58,70 @@ fn keep_disk(
 /// Shows how a command ended, and its sessions.
 fn show_outcome(rt: &HostRuntime, outcome: &Outcome, is_loose: bool) -> Result<()> {
     let Outcome {
-        ended,
-        text,
+        end,
         why,
+        heard,
+        ..
+    } = outcome;
+    let Heard {
+        text,
         notices,
         course,
         met,
-        sessions,
-        ..
-    } = outcome;
-    println!(rt; "  {ended} {text:?}")?;
-    if !why.is_empty() {
-        println!(rt; "  {why}")?;
+    } = heard;
+    println!(rt; "  {} {text:?}", end.text)?;
+    show_text(rt, why.as_str())?;
+    show_texts(rt, "says ", notices.as_slice())?;
+    if !is_loose {
+        show_text(rt, course.as_str())?;
     }
-    for notice in notices.as_slice() {
-        println!(rt; "  says {notice}")?;
-    }
-    if !course.is_empty() && !is_loose {
-        println!(rt; "  {course}")?;
-    }
-    for session in sessions.as_slice() {
-        println!(rt; "  {session}")?;
-    }
-    if !met.is_empty() {
-        println!(rt; "  {met}")?;
-    }
-    Ok(())
+    show_texts(rt, "", end.sessions.as_slice())?;
+    show_text(rt, met)
 }
 
 /// Runs a command on the script's disks, and shows what comes of it.
 fn show_run(
     rt: &HostRuntime,
-    threads: &(impl Threads + Wait + Sync),
+    program: &impl Program,
     world: &mut World,
     words: &str,
     is_loose: bool,
 ) -> Result<()> {
-    let alloc = rt.alloc();
-    let disks = world.take_disks(alloc)?;
-    let outcome = run_on(
-        rt,
-        threads,
-        world,
-        words,
-        disks,
-        world.next.clients.as_slice(),
-    )?;
+    let disks = world.take_disks(rt.alloc())?;
+    let clients = world.next.clients.as_slice();
+    let outcome = run_on(rt, program, world, words, disks, clients)?;
     show_outcome(rt, &outcome, is_loose)?;
-    let (disk, header) = outcome.into_disks();
+    let Outcome { disk, header, .. } = outcome;
     let World { disks, next, .. } = world;
     let left = next.left.as_str();
     let mut shelves = disks.as_mut_slice().iter_mut();
-    if is_loose {
-        keep_disk(rt, disk, left, shelves.next())?;
-        keep_disk(rt, header, left, shelves.next())?;
-    } else {
-        show_disk(rt, "disk", disk, left, shelves.next())?;
-        show_disk(rt, "header", header, left, shelves.next())?;
-    }
+    keep_disk(rt, "disk", disk, left, shelves.next(), is_loose)?;
+    keep_disk(rt, "header", header, left, shelves.next(), is_loose)?;
     if words.starts_with("format") || words.starts_with("init") {
         world.first = world.first.wrapping_add(32);
     }
     Ok(())
 }
 
+/// A command that is tried on the script's disk.
+fn trial<'a, P: Program>(
+    rt: &'a HostRuntime,
+    program: &'a P,
+    world: &'a World,
+    words: &'a str,
+) -> Trial<'a, P> {
+    Trial {
+        rt,
+        program,
+        world,
+        words,
+    }
+}
+
 /// Does what a line says, and shows what comes of it.
 fn do_line(
     rt: &HostRuntime,
-    threads: &(impl Threads + Wait + Sync),
+    program: &impl Program,
     world: &mut World,
     line: Line<'_>,
 ) -> Result<()> {
@@ -147,12 +149,12 @@ fn do_line(
         }
         Line::Metadata(columns) => {
             let World { lexicon, stand, .. } = world;
-            return show_metadata(rt, lexicon, stand, columns);
+            return show_metadata(rt, program, lexicon, stand, columns);
         }
-        Line::Run(words) => show_run(rt, threads, world, words, false)?,
-        Line::Loose(words) => show_run(rt, threads, world, words, true)?,
-        Line::Stops(words) => show_stops(rt, threads, world, words)?,
-        Line::Faults(words) => show_faults(rt, threads, world, words)?,
+        Line::Run(words) => show_run(rt, program, world, words, false)?,
+        Line::Loose(words) => show_run(rt, program, world, words, true)?,
+        Line::Stops(words) => trial(rt, program, world, words).show_stops()?,
+        Line::Faults(words) => trial(rt, program, world, words).show_faults()?,
     }
     world.next = Next::new(alloc)?;
     Ok(())
@@ -162,7 +164,7 @@ fn do_line(
 /// of it.
 fn show_lines(
     rt: &HostRuntime,
-    threads: &(impl Threads + Wait + Sync),
+    program: &impl Program,
     world: &mut World,
     path: &str,
 ) -> Result<()> {
@@ -173,19 +175,19 @@ fn show_lines(
         if line.is_shown() {
             println!(rt; "{text}")?;
         }
-        do_line(rt, threads, world, line)?;
+        do_line(rt, program, world, line)?;
     }
     Ok(())
 }
 
-/// Shows what a script comes to, behind the names that all scripts have.
-pub(crate) fn show_script(
-    rt: &HostRuntime,
-    threads: &(impl Threads + Wait + Sync),
-    path: &str,
-) -> Result<()> {
+/// Shows what a script of the scripts' folder comes to, behind the names that all scripts have.
+///
+/// # Errors
+///
+/// It can't be read or shown, or a line of it has no meaning.
+pub fn show_script(rt: &HostRuntime, program: &impl Program, path: &str) -> Result<()> {
     let mut world = World::new(rt.alloc())?;
     println!(rt; "{path}")?;
-    show_lines(rt, threads, &mut world, NAMES)?;
-    show_lines(rt, threads, &mut world, path)
+    show_lines(rt, program, &mut world, NAMES)?;
+    show_lines(rt, program, &mut world, path)
 }

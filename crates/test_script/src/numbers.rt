@@ -4,10 +4,26 @@ use anyhow::{Result, anyhow};
 use std::alloc::Global;
 
 /// The number of a word.
-pub(crate) fn number(word: &str) -> Result<u64> {
+///
+/// # Errors
+///
+/// It is none of 64 bits.
+pub fn number(word: &str) -> Result<u64> {
     match word.parse() {
         Ok(number) => Ok(number),
         Err(_) => Err(anyhow!("{word} is no number")),
+    }
+}
+
+/// The number of a word, of 32 bits.
+///
+/// # Errors
+///
+/// It is none such.
+pub fn small_number(word: &str) -> Result<u32> {
+    match word.parse() {
+        Ok(number) => Ok(number),
+        Err(_) => Err(anyhow!("no number of 32 bits")),
     }
 }
 

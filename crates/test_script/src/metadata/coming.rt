@@ -5,10 +5,11 @@ ghost use Rattle.reenc_meta.specs.Placements.{all_atoms};
 ghost use Rattle.sector_disk.specs.Geometry.{IsDisk};
 
 use crate::bytes::Lexicon;
-use crate::metadata::beginnings::begun;
-use crate::metadata::stands::{Stand, number, sizes_of, valid_of};
+use crate::metadata::stands::{Stand, sizes_of, valid_of};
 use crate::metadata::steps::{go_on, start_with, start_without};
 use crate::metadata::wishes::wish_in;
+use crate::numbers::number;
+use crate::program::Program;
 use anyhow::{Result, anyhow};
 use luks_json::JsonText;
 use luks_meta::Meta;
@@ -20,7 +21,11 @@ use std::alloc::Global;
 pub(crate) type Found = Result<Stand, String>;
 
 /// The text of metadata.
-fn text_of(alloc: Global, meta: &Meta) -> Result<String> {
+///
+/// # Errors
+///
+/// Memory was wanted.
+pub fn text_of(alloc: Global, meta: &Meta) -> Result<String> {
     match String::from_utf8(meta.write(alloc)?.into_vec()) {
         Ok(text) => Ok(text),
         Err(_) => Err(anyhow!("a text that isn't in UTF-8")),
@@ -83,11 +88,11 @@ fn next(stand: &Stand, text: String) -> Stand {
 }
 
 /// A row that begins a conversion with a new key.
-fn begin(alloc: Global, stand: &Stand, words: &[&str]) -> Result<Found> {
+fn begin(alloc: Global, program: &impl Program, stand: &Stand, words: &[&str]) -> Result<Found> {
     let valid = valid_of(alloc, stand)?;
-    match begun(alloc, &valid, words)? {
-        Ok(begun) => Ok(Ok(next(stand, text_of(alloc, &begun.meta)?))),
-        Err(fault) => Ok(Err(format!(in alloc; "{fault:?}")?)),
+    match program.begin(&valid, words)? {
+        Ok(text) => Ok(Ok(next(stand, text))),
+        Err(why) => Ok(Err(why)),
     }
 }
 
@@ -117,6 +122,7 @@ fn step(alloc: Global, stand: &Stand, words: &[&str]) -> Result<Found> {
 /// What a row comes to, from the header that the rows before it have come to.
 pub(crate) fn come_to(
     alloc: Global,
+    program: &impl Program,
     lexicon: &Lexicon,
     stand: &Stand,
     words: &[&str],
@@ -125,7 +131,7 @@ pub(crate) fn come_to(
         ["header", words @ ..] => Ok(Ok(header(alloc, lexicon, words)?)),
         ["bare", words @ ..] => Ok(Ok(bare(alloc, words)?)),
         ["start", words @ ..] => Ok(Ok(start(alloc, stand, words)?)),
-        ["begin", words @ ..] => begin(alloc, stand, words),
+        ["begin", words @ ..] => begin(alloc, program, stand, words),
         words => step(alloc, stand, words),
     }
 }

@@ -1,7 +1,7 @@
 // The steps of a conversion.
 
 ghost use Rattle.std.specs.Prelude.{◌≡◌, ◌<◌};
-ghost use Rattle.rows.specs.Wishes.{HasText};
+ghost use Rattle.test_script.specs.Wishes.{HasText};
 ghost use Rattle.reenc_meta.specs.Placements.{all_atoms};
 ghost use Rattle.sector_disk.specs.Geometry.{IsDisk};
 

@@ -8,7 +8,6 @@ use anyhow::{Result, anyhow};
 use base_terms::zeros;
 use memory_disks::{Choice, MemDisk};
 use sector_disk::Disk;
-use sha2::{Digest, Sha256};
 use std::alloc::Global;
 
 /// The device calls that put a disk's bytes there before a command.
@@ -72,12 +71,7 @@ fn fails_of(alloc: Global, limit: Limit<'_>) -> Result<Vec<u64>> {
 }
 
 /// A disk of these bytes, of which each atom has the one value that it has here.
-pub(crate) fn disk_with(
-    alloc: Global,
-    atom: u64,
-    bytes: &[u8],
-    limit: Limit<'_>,
-) -> Result<MemDisk> {
+fn disk_with(alloc: Global, atom: u64, bytes: &[u8], limit: Limit<'_>) -> Result<MemDisk> {
     if atom != 512 && atom != 4096 {
         return Err(anyhow!("atoms of {atom} bytes"));
     }
@@ -95,6 +89,20 @@ pub(crate) fn disk_with(
         disk.stop_after(calls.saturating_add(CALLS));
     }
     Ok(disk)
+}
+
+impl Shelf {
+    /// The disk with these bytes, whose calls fail so, under its name.
+    pub(crate) fn disk(
+        &self,
+        alloc: Global,
+        bytes: &[u8],
+        limit: Limit<'_>,
+    ) -> Result<(String, MemDisk)> {
+        let mut disk = disk_with(alloc, self.atom, bytes, limit)?;
+        disk.set_tail(self.tail);
+        Ok((self.name.clone()?, disk))
+    }
 }
 
 /// How many device calls a command made.
@@ -162,9 +170,4 @@ pub(crate) fn left_on(alloc: Global, disk: MemDisk, left: &str) -> Result<Vec<u8
         Ok(disk) => bytes_on(alloc, disk),
         Err(_) => Err(anyhow!("no memory for an image")),
     }
-}
-
-/// The SHA-256 of bytes, in hexadecimal.
-pub(crate) fn sum_of(alloc: Global, bytes: &[u8]) -> Result<String> {
-    Ok(hex::encode(alloc, &Sha256::digest(bytes))?)
 }

@@ -12,7 +12,7 @@ use Rattle.luks_rules.specs.Segments.{in_progress}
 use Rattle.luks_rules.specs.declared.idle.Idle.{Idle}
 use Rattle.reenc_meta.specs.Wishes.{HasOffset, IsWish, encryption_for, unencrypted}
 use Rattle.reenc_meta.specs.declared.wish.Wish.{Wish}
-use Rattle.rows.specs.Wishes.{HasText}
+use Rattle.test_script.specs.Wishes.{HasText}
 
 sectors_by : (w : Wish) (mode : Mode) → is_sector_size w.sector_size ≡ true
     → IfSome (encryption_for w mode) (λ e. is_sector_size e.sector_size ≡ true)

@@ -1,15 +1,16 @@
 // Headers of conversions, step by step, also of those that no command begins yet.
 
-mod beginnings;
 mod coming;
 mod stands;
 mod steps;
 mod wishes;
 
 use crate::bytes::Lexicon;
+use crate::program::Program;
 use anyhow::Result;
 use base_terms::Sizes;
 use coming::come_to;
+pub use coming::text_of;
 pub(crate) use stands::Stand;
 use stands::told;
 use std::alloc::Global;
@@ -43,12 +44,13 @@ fn show_stand(rt: &HostRuntime, stand: &Stand, is_made: bool) -> Result<bool> {
 /// Goes on by the columns of a line; shows what it comes to.
 pub(crate) fn show_metadata(
     rt: &HostRuntime,
+    program: &impl Program,
     lexicon: &Lexicon,
     stand: &mut Stand,
     columns: &str,
 ) -> Result<()> {
     let words: Vec<&str> = columns.split('\t').collect(rt.alloc())?;
-    match come_to(rt.alloc(), lexicon, stand, words.as_slice())? {
+    match come_to(rt.alloc(), program, lexicon, stand, words.as_slice())? {
         Ok(next) => {
             if show_stand(rt, &next, !columns.starts_with("header"))? {
                 *stand = next;

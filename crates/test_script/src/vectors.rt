@@ -2,8 +2,8 @@
 // of.
 
 use crate::bytes::Lexicon;
+use crate::digests::put_text;
 use crate::numbers::{number, pair};
-use crate::sessions::put_text;
 use aes_core::Aes;
 use af_split::{merge, split};
 use anyhow::{Result, anyhow};

@@ -1,7 +1,7 @@
 // What rows wish for.
 
 ghost use Rattle.std.specs.Prelude.{◌≡◌, IfOk, IfSome, IsTrue, true};
-ghost use Rattle.rows.specs.Wishes.{HasText};
+ghost use Rattle.test_script.specs.Wishes.{HasText};
 ghost use Rattle.luks_meta.specs.Digests.{IsDigest};
 ghost use Rattle.luks_meta.specs.Keyslots.{IsLuks2};
 ghost use Rattle.luks_meta.specs.Metas.{IsMeta};

@@ -1,22 +1,10 @@
 // How sessions ended, and what their clients were put.
 
-use crate::disks::sum_of;
+use crate::digests::put_text;
 use anyhow::{Result, anyhow};
 use bays::MemLink;
-use reenc_tool::{Ending, SessionEnd};
+use nbd_session::{Ending, SessionEnd};
 use std::alloc::Global;
-
-/// The bytes that a client is put and that are told one by one.
-const TOLD: usize = 64;
-
-/// Bytes, as they are told: all of few, of more their SHA-256.
-pub(crate) fn put_text(alloc: Global, bytes: &[u8]) -> Result<String> {
-    if bytes.len() <= TOLD {
-        Ok(hex::encode(alloc, bytes)?)
-    } else {
-        sum_of(alloc, bytes)
-    }
-}
 
 /// How a session ended, in words.
 fn ending_text(alloc: Global, ending: Ending) -> Result<String> {
