@@ -6,8 +6,9 @@ short of memory meanwhile.
 FOLDER has the scripts of crates/rows/data; SHORT is the library that refuses memory, while the program has
 more than one thread: while clients are served. An operation that wanted memory is answered by error 12 and
 is not executed; a session that wanted memory ends. Each session has to be one in which some operations went
-so and all others were executed, and what is then read has to be what these wrote: no session and no block is
-another one's, whatever is refused. The program ends by itself; the conversion comes to its end or wants memory.
+so and all others were executed, and what is then read has to be what these wrote, or what the volume held before
+by the oracle: no session and no block is another one's, whatever is refused. The program ends by itself; the
+conversion comes to its end or wants memory.
 """
 
 import hashlib
@@ -19,8 +20,13 @@ import subprocess
 import sys
 
 PROGRAM, SHORT, FOLDER = (os.path.abspath(word) for word in sys.argv[1:])
+sys.path.insert(0, os.path.normpath(os.path.join(os.path.abspath(__file__), "../..")))
+
+from oracle.scripts import Contents
+
 SESSIONS, BLOCK, BLOCKS, ENOMEM = 64, 512, 4, 12
 LINE = re.compile(r"  link \d+: (\d+) (.*), taken (\d+), put (\d+) ?(\w*)$")
+COMMAND = r"loose serve .* --workers 16 "
 ENDS = {"0 Fine", "13 Memory", "0 Fine wanting memory", "13 Memory wanting memory"}
 
 
@@ -77,13 +83,13 @@ def cut(number, refused, stood, length):
     return executed(number, set(refused) | set(range(length, 6)), stood)[1]
 
 
-def judged(text, more):
+def judged(text, more, contents):
     """How many operations and how many sessions wanted memory, and how many conversions."""
     wanted = [0, 0, 0]
-    runs = re.split(r"^(?=loose serve .* --workers 16 )", text, flags=re.M)[1:]
-    if len(runs) != 2:
+    runs = re.split(f"^(?={COMMAND})", text, flags=re.M)[1:]
+    if len(runs) != len(contents):
         raise SystemExit(f"failed: {more}: {text[:300]}")
-    for run in runs:
+    for run, content in zip(runs, contents):
         lines = run.splitlines()
         end = re.match(r"  (.*) \"", lines[1])
         if not end or end[1] not in ENDS:
@@ -94,7 +100,8 @@ def judged(text, more):
             if not match:
                 break
             number = int(match[1])
-            seen = session(number, match[2], int(match[4]), match[5], bytes(BLOCKS * BLOCK))
+            stood = content[number * BLOCKS * BLOCK :][: BLOCKS * BLOCK]
+            seen = session(number, match[2], int(match[4]), match[5], stood)
             if seen is None or match[2] not in ("Disconnected", "Memory"):
                 raise SystemExit(f"failed: {more}: {line}")
             found[number] = seen
@@ -130,7 +137,7 @@ def lines_of(**more):
     if ran.returncode != 0:
         raise SystemExit(f"failed: {more}: status {ran.returncode}: {ran.stdout[-300:]} {ran.stderr}")
     with open("counts", "rb") as file:
-        return ran.stdout, struct.unpack("<QQ", file.read())
+        return ran.stdout, struct.unpack("<QQ", file.read(16))
 
 
 def shortages(calls):
@@ -150,14 +157,15 @@ def shortages(calls):
 
 def main():
     runs, refused, wanted = 0, 0, [0, 0, 0]
+    contents = Contents("crowd", COMMAND).found
     # once also of the conversion's worker, whose thread is the first one, and once of clients alone
     for others in ({}, {"WANTING_OTHERS": "1"}):
         text, (calls, _) = lines_of(**others)
-        if judged(text, others) != (0, 0, 0):
+        if judged(text, others, contents) != (0, 0, 0):
             raise SystemExit(f"failed: memory was wanted where none was refused: {text[:600]}")
         for more in shortages(calls):
             text, counts = lines_of(**more, **others)
-            found = judged(text, more | others)
+            found = judged(text, more | others, contents)
             if counts[1] == 0 and sum(found):
                 raise SystemExit(f"failed: {more | others}: memory was wanted where none was refused: {text[:600]}")
             runs, refused = runs + 1, refused + counts[1]

@@ -5,9 +5,10 @@
 SHORT is the library that refuses memory. Each client has blocks of its own, writes, zeroes and reads them,
 and flushes, by several connections one after the other. Each request is answered rightly or by error 12, for
 want of memory, or the connection ends, also before it was made. A write that was answered by error 12 did
-nothing; one that wasn't answered did all or nothing of each block. The server ends by status 0, 10, where
-memory was wanted for a connection, or 13. Behind each run each block is read, under a server that isn't short
-of memory, goes on with the conversion and leads it to its end.
+nothing; one that wasn't answered did all or nothing of each block. A server that has no memory for a client
+turns it away, says so and waits for the next one: there has to be memory again before its sessions can end. It
+ends by status 0, 10, where memory was wanted for a connection, or 13. Behind each run each block is read,
+under a server that isn't short of memory, goes on with the conversion and leads it to its end.
 """
 
 import errno
@@ -217,17 +218,28 @@ def clients(server, turn, values):
 
 
 def leave(server):
-    """Sessions that no client had are taken up and left, so that the server comes to its end."""
-    for _ in range(CLIENTS * CONNECTIONS):
-        if server.process.poll() is None:
-            connection = connected(server.port, 0)
-            if connection:
-                connection.shutdown()
+    """Sessions that no client had are taken up and left, so that the server comes to its end. Once a client
+    was turned away there is memory again: a server that waits for it goes on then."""
+    for _ in range(2 * CLIENTS * CONNECTIONS):
+        if server.process.poll() is not None:
+            break
+        connection = connected(server.port, 0)
+        if connection:
+            connection.shutdown()
+        else:
+            give_memory()
 
 
 def counted():
     with open("counts", "rb") as file:
-        return struct.unpack("<QQ", file.read())
+        return struct.unpack("<QQ", file.read(16))
+
+
+def give_memory():
+    """From now on no call for memory is refused."""
+    with open("counts", "r+b") as file:
+        file.seek(16)
+        file.write(struct.pack("<Q", 1))
 
 
 def run(turn, values):

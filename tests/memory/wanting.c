@@ -9,7 +9,8 @@
  *   WANTING_PARTS  so many of a thousand, drawn from WANTING_SEED;
  *   WANTING_ABOVE  if set, of all these just those for more bytes than that.
  * WANTING_OTHERS, if set, leaves the calls of the program's first thread alone. The file that
- * WANTING_COUNTS names, 16 bytes, has how many were counted and how many were refused. */
+ * WANTING_COUNTS names, 24 bytes, has how many were counted and how many were refused. Once
+ * somebody writes another number than 0 behind these, nothing more is refused. */
 #define _GNU_SOURCE
 #include <dlfcn.h>
 #include <errno.h>
@@ -28,7 +29,7 @@ extern void *__libc_malloc(size_t);
 extern void *__libc_calloc(size_t, size_t);
 extern void *__libc_realloc(void *, size_t);
 
-static _Atomic uint64_t own_counts[2];
+static _Atomic uint64_t own_counts[3];
 static _Atomic uint64_t *counts = own_counts;
 static atomic_int threads, listens;
 static int since_listening, since_threads, has_first, has_every, others;
@@ -70,9 +71,9 @@ __attribute__((constructor)) static void begin(void) {
     above = number("WANTING_ABOVE", 0);
     draws = number("WANTING_SEED", 1);
     int opened = file ? open(file, O_RDWR | O_CREAT, 0600) : -1;
-    if (opened < 0 || ftruncate(opened, 16))
+    if (opened < 0 || ftruncate(opened, sizeof own_counts))
         return;
-    void *place = mmap(NULL, 16, PROT_READ | PROT_WRITE, MAP_SHARED, opened, 0);
+    void *place = mmap(NULL, sizeof own_counts, PROT_READ | PROT_WRITE, MAP_SHARED, opened, 0);
     if (place != MAP_FAILED)
         counts = place;
     close(opened);
@@ -97,7 +98,7 @@ static int is_refused(size_t bytes, void *caller) {
                            (has_every && count > first && (!every || (count - first) % every == 0)));
     if (!is && !(parts && is_drawn()))
         return 0;
-    if (bytes <= above)
+    if (bytes <= above || counts[2])
         return 0;
     atomic_fetch_add(&counts[1], 1);
     errno = ENOMEM;

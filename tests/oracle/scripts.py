@@ -108,3 +108,16 @@ class Script:
             self.world.first = (self.world.first + 32) % 256
         if word not in ("words", "value", "metadata"):
             self.world.next = Next()
+
+
+class Contents(Script):
+    """What the volume of a script's disk holds before each command of this pattern."""
+
+    def __init__(self, name, command):
+        self.command, self.found = command, []
+        super().__init__(name, parts(read(STDOUT))[name])
+
+    def line(self, line):
+        if re.match(self.command, line):
+            self.found.append(running.Scene(self.world, line).content)
+        super().line(line)

@@ -41,12 +41,13 @@ def refused(found):
 
 class Bay:
     """Disks and key files by their names, the 32 bytes that are drawn, what clients at the
-    address `A` send, and the numbers of the calls that fail by whose they are. It keeps which
-    disks were opened, the links' sessions, what a gate was told, and a word of what people are."""
+    address `A` send and how many bytes each takes at most, and the numbers of the calls that fail
+    by whose they are. It keeps which disks were opened, the links' sessions, what a gate was told,
+    and a word of what people are."""
 
-    def __init__(self, disks, keys, seed, clients=(), fails_of=lambda _: ()):
+    def __init__(self, disks, keys, seed, clients=(), room=None, fails_of=lambda _: ()):
         self.disks, self.keys, self.drawn_from = disks, keys, seed
-        self.clients, self.fails_of = clients, fails_of
+        self.clients, self.room, self.fails_of = clients, room, fails_of
         self.asked = self.faults = 0
         self.opened, self.sessions, self.course = [], [], ""
         self.word = ""

@@ -26,11 +26,9 @@ OTHERS = re.compile(r"says |\d+ told, |link \d+: |met$|missed$|(disk|header): \d
 
 def run_on(world, words, disks, clients=()):
     """A command's end, on these disks, for these clients, and the bay behind it."""
-    bay = Bay(disks, world.keys, world.seed(), clients, world.next.fails_of)
-    ended = put_out(ended_by(bay, words), world.next.room, world.next.fails_of("out"))
-    if any(world.next.taken < len(session.put) for _, _, session in bay.sessions):
-        raise NotJudged
-    return ended, bay
+    after = world.next
+    bay = Bay(disks, world.keys, world.seed(), clients, after.taken, after.fails_of)
+    return put_out(ended_by(bay, words), after.room, after.fails_of("out")), bay
 
 
 def put_out(ended, room, fails):

@@ -79,9 +79,9 @@ class Blocks:
 class OnDisk(nbd.Session):
     """A session whose requests are carried out on a disk."""
 
-    def __init__(self, blocks, sent):
+    def __init__(self, blocks, sent, room):
         self.blocks = blocks
-        super().__init__(bytearray(blocks.content()), blocks.disk.atom, sent)
+        super().__init__(bytearray(blocks.content()), blocks.disk.atom, sent, room=room)
 
     def carried_out(self, kind, flags, offset, data):
         blocks, is_broken = self.blocks, self.blocks.broken
@@ -156,7 +156,7 @@ def served(bay, wish, blocks):
     for number, sent in enumerate(clients):
         call, link = divmod(number, wish.workers)
         if call < lasts[link]:
-            bay.sessions.append((link, number, OnDisk(blocks, sent)))
+            bay.sessions.append((link, number, OnDisk(blocks, sent, bay.room)))
     return failed
 
 

@@ -71,15 +71,17 @@ class Ended(Exception):
 class Session:
     """One session, from the bytes that the client sends, whose input then ends. Where `healthy`
     is a number, the volume is broken behind so many requests: each one from then on that isn't
-    wrong is refused."""
+    wrong is refused. Where `room` is one, the client takes no more bytes than that."""
 
-    def __init__(self, disk, atom, sent, healthy=None):
+    def __init__(self, disk, atom, sent, healthy=None, room=None):
         self.disk, self.atom, self.sent, self.healthy = disk, atom, sent, healthy
+        self.room = room
         self.asked = 0
-        self.put = bytearray(GREETING)
+        self.put = bytearray()
         self.taken = 0
         self.no_zeroes = self.structured = False
         try:
+            self.tell(GREETING)
             self.agree()
             while True:
                 self.serve()
@@ -98,6 +100,14 @@ class Session:
             came = self.taken - self.began
             raise Ended(f"Truncated({came})" if came else "Closed")
         return data
+
+    def tell(self, *parts):
+        """Puts these parts, one after the other. The session ends where the client hasn't room for
+        one, which isn't put then."""
+        for part in parts:
+            if self.room is not None and len(self.put) + len(part) > self.room:
+                raise Ended("WriteFault")
+            self.put += part
 
     # the handshake
 
@@ -127,33 +137,33 @@ class Session:
         if number == EXPORT_NAME:
             if data not in (b"", NAME):
                 raise Ended("UnknownExport")
-            self.put += self.export() + bytes(0 if self.no_zeroes else 124)
+            self.tell(self.export() + bytes(0 if self.no_zeroes else 124))
             return True
         if number in (INFO, GO):
             return self.inform(number, chosen_name(data))
         if number == ABORT:
-            self.put += option_reply(number, ACK)
+            self.tell(option_reply(number, ACK))
             raise Ended("Aborted")
         if number not in (LIST, STRUCTURED_REPLY):
-            self.put += option_reply(number, UNSUP)
+            self.tell(option_reply(number, UNSUP))
         elif data:
-            self.put += option_reply(number, INVALID)
+            self.tell(option_reply(number, INVALID))
+        elif number == LIST:
+            exports = option_reply(number, SERVER, struct.pack(">I", len(NAME)) + NAME)
+            self.tell(exports + option_reply(number, ACK))
         else:
-            if number == LIST:
-                self.put += option_reply(number, SERVER, struct.pack(">I", len(NAME)) + NAME)
-            else:
-                self.structured = True
-            self.put += option_reply(number, ACK)
+            self.structured = True
+            self.tell(option_reply(number, ACK))
         return False
 
     def inform(self, number, name):
         if name is None or name not in (b"", NAME):
             error = INVALID if name is None else TOO_BIG if len(name) > MAX_NAME else UNKNOWN
-            self.put += option_reply(number, error)
+            self.tell(option_reply(number, error))
             return False
         sizes = struct.pack(">HIII", 3, self.atom, 4096, MAX_DATA)
-        self.put += option_reply(number, INFO_REPLY, struct.pack(">H", 0) + self.export())
-        self.put += option_reply(number, INFO_REPLY, sizes) + option_reply(number, ACK)
+        export = option_reply(number, INFO_REPLY, struct.pack(">H", 0) + self.export())
+        self.tell(export + option_reply(number, INFO_REPLY, sizes) + option_reply(number, ACK))
         return number == GO
 
     # the requests
@@ -177,7 +187,7 @@ class Session:
         if kind == READ:
             self.answer_read(flags, cookie, offset, length, error)
         else:
-            self.put += simple_reply(cookie, error)
+            self.tell(simple_reply(cookie, error))
 
     def carried_out(self, kind, flags, offset, data):
         """Does what a request asks for, which has so many bytes, or these; the error that it is
@@ -207,19 +217,22 @@ class Session:
         return 0
 
     def answer_read(self, flags, cookie, offset, length, error):
+        """The head of a reply or a chunk is a part, and so is its data."""
         if not self.structured:
-            data = b"" if error else self.disk[offset : offset + length]
-            self.put += simple_reply(cookie, error, data)
+            self.tell(simple_reply(cookie, error))
+            if not error:
+                self.tell(self.disk[offset : offset + length])
         elif self.failed_at is not None:
             data = struct.pack(">IHQ", error, 0, self.failed_at)
-            self.put += chunk(cookie, DONE, ERROR_OFFSET, data)
+            self.tell(chunk(cookie, DONE, ERROR_OFFSET, data))
         elif error:
-            self.put += chunk(cookie, DONE, ERROR, struct.pack(">IH", error, 0))
+            self.tell(chunk(cookie, DONE, ERROR, struct.pack(">IH", error, 0)))
         elif not length:
-            self.put += chunk(cookie, DONE, NONE)
+            self.tell(chunk(cookie, DONE, NONE))
         else:
             most = length if flags & DF else MAX_CHUNK
             for at in range(offset, offset + length, most):
                 end = min(at + most, offset + length)
                 data = struct.pack(">Q", at) + self.disk[at:end]
-                self.put += chunk(cookie, DONE if end == offset + length else 0, OFFSET_DATA, data)
+                whole = chunk(cookie, DONE if end == offset + length else 0, OFFSET_DATA, data)
+                self.tell(whole[: at - end], whole[at - end :])
