@@ -339,6 +339,10 @@ if command -v cryptsetup >/dev/null; then
     keeps other.img 5 "fault 5 NoKey" "luksConvertKey --pbkdf pbkdf2" serve other.img --key-file key --listen stdio
     luks --type luks2 --pbkdf pbkdf2 --pbkdf-force-iterations 1000 --cipher aes-xts-plain
     keeps other.img 4 "fault 4 Header" "segments/0/encryption of its first copy is aes-xts-plain" status other.img
+    for words in "init other.img" "resume other.img" "serve other.img --listen 127.0.0.1:0"; do
+        # shellcheck disable=SC2086
+        keeps other.img 4 "fault 4 Header" "segments/0/encryption of its first copy is aes-xts-plain" $words --key-file key
+    done
     luks --type luks2 --pbkdf pbkdf2 --pbkdf-force-iterations 1000 --sector-size 4096
     keeps other.img 4 "fault 4 Header" "another --atom" serve other.img --key-file key --atom 512 --listen stdio
     rm -f backup.img

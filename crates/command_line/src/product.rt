@@ -156,7 +156,7 @@ fn init<'a>(alloc: Global) -> Result<Command<'a>, AllocError>
         Item::Valued {
             name: "hotzone-size",
             value: "BYTES",
-            help: "The most bytes that are converted at once, a multiple of --atom [default: 1048576]",
+            help: "Room for the blocks of one zone, a multiple of --atom, at most 67108864 [default: 1048576]",
             required: false,
         },
         Item::Unbuilt {
@@ -223,7 +223,7 @@ fn serve<'a>(alloc: Global) -> Result<Command<'a>, AllocError>
         Item::Valued {
             name: "idle-timeout",
             value: "SECONDS",
-            help: "Drop a client that sends nothing for so long: 1 to 86400 [default: never]",
+            help: "Drop a client that sends or takes nothing for so long: 1 to 86400 [default: never]",
             required: false,
         },
         Item::Flag {

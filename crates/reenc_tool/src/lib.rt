@@ -34,4 +34,6 @@ pub use history::Pass;
 pub use luks_store::StoreFault;
 pub use nbd_session::{Ending, SessionEnd};
 pub use refusal_text::RefusalText;
+pub use resume_disk::Refusal as ResumeRefusal;
+pub use volume_opening::Refusal as OpeningRefusal;
 pub use volume_refusal::VolumeRefusal;

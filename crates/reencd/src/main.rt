@@ -51,7 +51,13 @@ fn main(rt: HostRuntime) -> ExitCode {
         &gate,
     );
     explain(rt.alloc(), rt.stderr(), &told);
-    tell_name(&rt, rt.alloc(), rt.stderr(), words.as_slice(), &told.fault);
+    tell_name(
+        &rt,
+        rt.alloc(),
+        rt.stderr(),
+        words.as_slice(),
+        told.header_fault(),
+    );
     ExitCode::from(told.cause.status())
 }
 

@@ -1,5 +1,6 @@
 use reenc_tool::{
-    Cause, Failing, FaultText, Fit, RefusalText, StoreFault, VolumeRefusal, explain_words,
+    Cause, Failing, FaultText, Fit, OpeningRefusal, RefusalText, ResumeRefusal, StoreFault,
+    VolumeRefusal, explain_words,
 };
 use std::alloc::Global;
 use std::io::Stderr;
@@ -12,6 +13,17 @@ pub struct Reason<'w> {
     pub refusal: Option<VolumeRefusal>,
     /// Whether it was to make a new volume.
     pub is_format: bool,
+}
+
+impl Reason<'_> {
+    /// What is wrong with the header, where the command ended for that.
+    pub fn header_fault(&self) -> Option<&StoreFault> {
+        match &self.refusal {
+            Some(VolumeRefusal::Opening(OpeningRefusal::Header(fault))) => Some(fault),
+            Some(VolumeRefusal::Resuming(ResumeRefusal::Header(fault))) => Some(fault),
+            _ => self.fault.as_ref(),
+        }
+    }
 }
 
 /// Says on standard error what was wrong with the words of a command, with its disk, with the
@@ -81,8 +93,8 @@ fn explain_fit(errors: Stderr, what: Fit, number: u64, limit: u64, reason: &Reas
             "reencd: more events of clients and steps of the conversion than {limit}"
         ),
         Fit::Blocks => eprintln!(errors;
-            "reencd: the disk has no room for a block (format begins the data at --data-offset, \
-            by default byte 16777216)"
+            "reencd: the disk has no room for a block{}",
+            blocks_cure(reason.is_format)
         ),
         Fit::Tail => eprintln!(errors;
             "reencd: tail: the disk has {number} bytes behind its last whole atom, which a conversion \
@@ -94,6 +106,15 @@ fn explain_fit(errors: Stderr, what: Fit, number: u64, limit: u64, reason: &Reas
             passphrase_length(number)
         ),
     };
+}
+
+/// Where the data of a new volume would begin that has no room for a block.
+fn blocks_cure(is_format: bool) -> &'static str {
+    if is_format {
+        " (format begins the data at --data-offset, by default byte 16777216)"
+    } else {
+        ""
+    }
 }
 
 /// What helps where an area has no room. A volume that there is can't be given another data offset.

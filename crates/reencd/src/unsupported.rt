@@ -26,7 +26,7 @@ pub fn tell_name(
     alloc: Global,
     errors: Stderr,
     words: &[String],
-    fault: &Option<StoreFault>,
+    fault: Option<&StoreFault>,
 ) {
     let Some(StoreFault::Json(fault)) = fault else {
         return;
