@@ -125,11 +125,7 @@ impl<P: Program> Trial<'_, P> {
             return Ok(self.world.next.tried.clone()?);
         }
         let calls = self.left(bytes, NO_FAULT, "held")?.calls;
-        let mut list = Vec::new(self.rt.alloc());
-        for number in 0..calls.saturating_add(more) {
-            list.push(number)?;
-        }
-        Ok(list)
+        Ok((0..calls.saturating_add(more)).collect(self.rt.alloc())?)
     }
 
     /// Stops the command within its device calls and behind the last one, and shows what each stop
@@ -163,15 +159,19 @@ impl<P: Program> Trial<'_, P> {
 
 /// The boundary and the zone that `status` has printed; `idle` where it has none.
 fn state_in(alloc: Global, text: &str) -> Result<String> {
-    let mut state = String::from_str(alloc, "idle")?;
+    let mut boundary = "idle";
+    let mut zone = None;
     for line in text.lines() {
         if let Some(told) = line.strip_prefix("boundary: ") {
-            state = String::from_str(alloc, told)?;
+            boundary = told;
         } else if let Some(told) = line.strip_prefix("zone: ") {
-            state = format!(in alloc; "{state} {told}")?;
+            zone = Some(told);
         }
     }
-    Ok(state)
+    match zone {
+        Some(zone) => Ok(format!(in alloc; "{boundary} {zone}")?),
+        None => Ok(String::from_str(alloc, boundary)?),
+    }
 }
 
 /// The second stop of an image of a first one.
