@@ -6,31 +6,24 @@ use bays::MemLink;
 use nbd_session::{Ending, SessionEnd};
 use std::alloc::Global;
 
-/// How a session ended: the word, and the number that it has besides.
-fn words_of(ending: Ending) -> (&'static str, Option<u64>) {
-    match ending {
-        Ending::Truncated(bytes) => ("Truncated", Some(bytes)),
-        Ending::BadFlags(flags) => ("BadFlags", Some(u64::from(flags))),
-        Ending::BadMagic(magic) => ("BadMagic", Some(magic)),
-        Ending::TooLong(bytes) => ("TooLong", Some(u64::from(bytes))),
-        Ending::TooMany(count) => ("TooMany", Some(count)),
-        Ending::Disconnected => ("Disconnected", None),
-        Ending::Aborted => ("Aborted", None),
-        Ending::Closed => ("Closed", None),
-        Ending::UnknownExport => ("UnknownExport", None),
-        Ending::PortSpent => ("PortSpent", None),
-        Ending::ReadFault => ("ReadFault", None),
-        Ending::WriteFault => ("WriteFault", None),
-        Ending::Memory => ("Memory", None),
-    }
-}
-
 /// How a session ended, in words.
 fn ending_text(alloc: Global, ending: Ending) -> Result<String> {
-    match words_of(ending) {
-        (word, Some(number)) => Ok(format!(in alloc; "{word}({number})")?),
-        (word, None) => Ok(String::from_str(alloc, word)?),
-    }
+    let word = match ending {
+        Ending::Truncated(bytes) => return Ok(format!(in alloc; "Truncated({bytes})")?),
+        Ending::BadFlags(flags) => return Ok(format!(in alloc; "BadFlags({flags})")?),
+        Ending::BadMagic(magic) => return Ok(format!(in alloc; "BadMagic({magic})")?),
+        Ending::TooLong(bytes) => return Ok(format!(in alloc; "TooLong({bytes})")?),
+        Ending::TooMany(count) => return Ok(format!(in alloc; "TooMany({count})")?),
+        Ending::Disconnected => "Disconnected",
+        Ending::Aborted => "Aborted",
+        Ending::Closed => "Closed",
+        Ending::UnknownExport => "UnknownExport",
+        Ending::PortSpent => "PortSpent",
+        Ending::ReadFault => "ReadFault",
+        Ending::WriteFault => "WriteFault",
+        Ending::Memory => "Memory",
+    };
+    Ok(String::from_str(alloc, word)?)
 }
 
 /// Tells the sessions of a link, in their order.

@@ -125,7 +125,11 @@ impl<P: Program> Trial<'_, P> {
             return Ok(self.world.next.tried.clone()?);
         }
         let calls = self.left(bytes, NO_FAULT, "held")?.calls;
-        Ok((0..calls.saturating_add(more)).collect(self.rt.alloc())?)
+        let mut list = Vec::new(self.rt.alloc());
+        for number in 0..calls.saturating_add(more) {
+            list.push(number)?;
+        }
+        Ok(list)
     }
 
     /// Stops the command within its device calls and behind the last one, and shows what each stop
@@ -159,19 +163,15 @@ impl<P: Program> Trial<'_, P> {
 
 /// The boundary and the zone that `status` has printed; `idle` where it has none.
 fn state_in(alloc: Global, text: &str) -> Result<String> {
-    let mut boundary = "idle";
-    let mut zone = None;
+    let mut state = String::from_str(alloc, "idle")?;
     for line in text.lines() {
         if let Some(told) = line.strip_prefix("boundary: ") {
-            boundary = told;
+            state = String::from_str(alloc, told)?;
         } else if let Some(told) = line.strip_prefix("zone: ") {
-            zone = Some(told);
+            state = format!(in alloc; "{state} {told}")?;
         }
     }
-    match zone {
-        Some(zone) => Ok(format!(in alloc; "{boundary} {zone}")?),
-        None => Ok(String::from_str(alloc, boundary)?),
-    }
+    Ok(state)
 }
 
 /// The second stop of an image of a first one.
