@@ -88,8 +88,14 @@ fn show_run(
     is_loose: bool,
 ) -> Result<()> {
     let disks = world.take_disks(rt.alloc())?;
-    let clients = world.next.clients.as_slice();
-    let outcome = run_on(rt, program, world, words, disks, clients)?;
+    let outcome = run_on(
+        rt,
+        program,
+        world,
+        words,
+        disks,
+        world.next.clients.as_slice(),
+    )?;
     show_outcome(rt, &outcome, is_loose)?;
     let Outcome { disk, header, .. } = outcome;
     let World { disks, next, .. } = world;
