@@ -93,20 +93,20 @@ fi
 stop TERM
 expect "what a signal leaves" "$(stat -c %F sock)" socket
 
-echo "== a socket that nobody has open"
+echo "== a socket at which nobody listens"
 serve_at sock disk.img --plain --atom 512 --sessions 1
 expect "a client" "$(visits sock)" 8388608
 served 1
 serve_at sock disk.img --plain --atom 512
 stop KILL
-serve_at sock disk.img --plain --atom 512 --sessions 1
+serve_at sock disk.img --plain --atom 512 --sessions 2
 made=$(stat -c %i sock)
 
 echo "== a socket in use"
 refuses sock "Address already in use"
 expect "the socket" "$(stat -c %i sock)" "$made"
-expect "the one session that the server has" "$(visits sock)" 8388608
-served 1
+expect "the session that the server has left" "$(visits sock)" 8388608
+served 2
 
 echo "== something else"
 printf 'content' >file

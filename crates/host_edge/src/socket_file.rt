@@ -1,15 +1,14 @@
 // A socket that has a file: how it is made, and taken away.
 
-ghost use Rattle.std.specs.Prelude.{◌≤◌, ◌↔◌, ◌≤ℤ◌, IsOk, pos};
+ghost use Rattle.std.specs.Prelude.{◌↔◌, ◌≤ℤ◌, IsOk, pos};
 
-use libc::net::{AF_UNIX, SOCK_CLOEXEC, SOCK_DGRAM, connect, listen, socket};
-use os::FromRawFd;
+use libc::net::listen;
 use std::fs::{self, Files};
 use std::io::{self, ErrorKind};
 use std::net::Net;
-use std::os::fd::{AsFd, AsRawFd, OwnedFd};
+use std::os::fd::{AsFd, AsRawFd};
 use std::os::unix::fs::{FileTypeExt, MetadataExt};
-use std::os::unix::net::{SocketAddr, UnixListener};
+use std::os::unix::net::{SocketAddr, UnixListener, UnixStream};
 use std::sync::Arc;
 
 /// The most bytes of a socket's path: `sun_path` has 108, of which a zero takes one (unix(7), Linux).
@@ -20,9 +19,6 @@ const OWNER_ALONE: u32 = 0o600;
 
 /// As many clients may wait to be met as the system allows.
 const BACKLOG: i32 = -1;
-
-/// The system's number for a socket that is open, but of another kind (connect(2), Linux).
-const EPROTOTYPE: i32 = 91;
 
 /// The file of a socket that listens. It is taken away where this is dropped, if it is the one that
 /// stands there then.
@@ -65,12 +61,12 @@ impl Drop for SocketFile {
 
 /// Listens at a socket whose file is made at this path, and which only its owner may connect to from
 /// the moment in which it is there. What stands at the path already is left as it is, but for the
-/// file of a socket that no process has open.
+/// file of a socket at which no process listens.
 ///
 /// # Errors
 ///
 /// Of the kind `InvalidInput` where the path is empty or too long; `AlreadyExists` where something
-/// else than a socket stands there; `AddrInUse` where a process has that socket open. Otherwise what
+/// else than a socket stands there; `AddrInUse` where a process listens at that socket. Otherwise what
 /// the system said.
 pub(crate) fn listen_at(
     machine: &HostRuntime,
@@ -105,45 +101,28 @@ fn address_of(path: &str) -> io::Result<SocketAddr> {
     SocketAddr::from_pathname(path)
 }
 
-/// Takes away the file of a socket that no process has open, and refuses all else at the path.
+/// Takes away the file of a socket at which no process listens, and refuses all else at the path.
 fn clear(machine: &HostRuntime, path: &str) -> io::Result<()> {
     let found = fs::symlink_metadata(machine, path)?;
     if !found.file_type().is_socket() {
         let message = "something else than a socket stands there";
         return Err(io::Error::new(ErrorKind::AlreadyExists, message));
     }
-    if is_open(path)? {
+    if is_open(machine, path)? {
         let message = "Address already in use";
         return Err(io::Error::new(ErrorKind::AddrInUse, message));
     }
     fs::remove_file(machine, path)
 }
 
-/// Whether a process has the socket at this path open. A datagram socket can't be connected to one
-/// that takes connections, so that whoever listens there sees nothing of it.
-fn is_open(path: &str) -> io::Result<bool> {
-    let number = unsafe { socket(AF_UNIX, SOCK_DGRAM | SOCK_CLOEXEC, 0) };
-    check(number)?;
-    let asking = unsafe { OwnedFd::from_raw_fd(number) };
-    let mut bytes = [0u8; 128];
-    let len = put_address(&mut bytes, path.as_bytes());
-    match check(unsafe { connect(asking.as_raw_fd(), &bytes, len) }) {
-        Ok(()) => Ok(true),
+/// Whether a process listens at the socket of this path. Whoever does meets a client that leaves at
+/// once.
+fn is_open(machine: &HostRuntime, path: &str) -> io::Result<bool> {
+    match UnixStream::connect(machine, path) {
+        Ok(_) => Ok(true),
         Err(error) if error.kind() == ErrorKind::ConnectionRefused => Ok(false),
-        Err(error) if error.raw_os_error() == Some(EPROTOTYPE) => Ok(true),
         Err(error) => Err(error),
     }
-}
-
-/// Puts the bytes of C's `sockaddr_un` for a path, of which no more than 107 are taken, and gives how
-/// many of them count.
-fn put_address(bytes: &mut [u8; 128], path: &[u8]) -> u32
-    ensures { result ≤ 128 }
-{
-    let len = path.len().min(LONGEST);
-    bytes[..2].copy_from_slice(&(AF_UNIX as u16).to_ne_bytes());
-    bytes[2..2 + len].copy_from_slice(&path[..len]);
-    len as u32 + 3
 }
 
 /// The error of the call that has just answered so, if that is negative.
