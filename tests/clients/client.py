@@ -14,11 +14,21 @@ def request(kind, cookie, offset=0, length=0, flags=0):
     return struct.pack(">IHHQQI", REQUEST, flags, kind, cookie, offset, length)
 
 
+def connected(place, timeout=20):
+    """A connection to a port of this machine, or to the socket of a path."""
+    if isinstance(place, int):
+        return socket.create_connection(("127.0.0.1", place), timeout=timeout)
+    made = socket.socket(socket.AF_UNIX)
+    made.settimeout(timeout)
+    made.connect(place)
+    return made
+
+
 class Client:
     """One connection that has agreed on the export."""
 
-    def __init__(self, port, timeout=20):
-        self.socket = socket.create_connection(("127.0.0.1", port), timeout=timeout)
+    def __init__(self, place, timeout=20):
+        self.socket = connected(place, timeout)
         assert self.take(16) == b"NBDMAGICIHAVEOPT"
         self.take(2)
         self.socket.sendall(struct.pack(">I", 3) + b"IHAVEOPT" + struct.pack(">IIIH", OPTION_GO, 6, 0, 0))

@@ -64,16 +64,27 @@ serve_under() {
     serve_by "$1" --key-file "$2" --atom "$3" --sessions "$4"
 }
 
-# Starts a server by these words.
+# Starts a server by these words on a free port.
 serve_by() {
+    start "$@" --listen 127.0.0.1:0
+    port=$(sed -n 's/^reencd: listening on .*:\([0-9]*\)$/\1/p' "$room/stderr")
+}
+
+# Starts a server at the socket of this path by these words: PATH WORD...
+serve_at() {
+    local path=$1
+    shift
+    start "$@" --listen "unix:$path"
+}
+
+# Starts a server by all its words, and waits until it says where it listens.
+start() {
     : >"$room/stdout"
     : >"$room/stderr"
-    "${tracer[@]}" "$reencd" serve "$@" --listen 127.0.0.1:0 \
-        >"$room/stdout" 2>"$room/stderr" </dev/null &
+    "${tracer[@]}" "$reencd" serve "$@" >"$room/stdout" 2>"$room/stderr" </dev/null &
     server=$!
     for _ in $(seq 1200); do
-        port=$(sed -n 's/^reencd: listening on .*:\([0-9]*\)$/\1/p' "$room/stderr")
-        [ -n "$port" ] && return
+        grep -q '^reencd: listening on .' "$room/stderr" && return
         kill -0 "$server" 2>/dev/null || break
         sleep 0.05
     done

@@ -1,5 +1,6 @@
 #!/usr/bin/env python3
-"""Clients that say or take nothing, or stay, or come in great numbers: `silent.py WHAT PORT`."""
+"""Clients that say or take nothing, or stay, or come in great numbers, at a port of this machine or
+at the socket of a path: `silent.py WHAT PLACE`."""
 
 import socket
 import struct
@@ -7,7 +8,7 @@ import sys
 import threading
 import time
 
-from client import READ, Client, request
+from client import READ, Client, connected, request
 
 
 FLAGS = struct.pack(">I", 3)
@@ -49,15 +50,22 @@ def curious(client):
         time.sleep(0.01)
 
 
-def gone_after(port, act):
-    """The seconds after which the server has dropped a client that does this. Its window is small, so that
-    the server soon can't send it more."""
+def small(place):
+    """A connection whose window is small at a port, so that the server soon can't send it more."""
+    if not isinstance(place, int):
+        return connected(place, 60)
+    made = socket.socket()
+    made.settimeout(60)
+    made.setsockopt(socket.IPPROTO_TCP, socket.TCP_MAXSEG, 536)
+    made.setsockopt(socket.SOL_SOCKET, socket.SO_RCVBUF, 4096)
+    made.connect(("127.0.0.1", place))
+    return made
+
+
+def gone_after(place, act):
+    """The seconds after which the server has dropped a client that does this."""
     begun = time.monotonic()
-    with socket.socket() as client:
-        client.settimeout(60)
-        client.setsockopt(socket.IPPROTO_TCP, socket.TCP_MAXSEG, 536)
-        client.setsockopt(socket.SOL_SOCKET, socket.SO_RCVBUF, 4096)
-        client.connect(("127.0.0.1", port))
+    with small(place) as client:
         try:
             act(client)
             while client.recv(4096):
@@ -67,38 +75,39 @@ def gone_after(port, act):
     return time.monotonic() - begun
 
 
-def negotiation(port):
+def negotiation(place):
     """Four clients that never come through the negotiation, side by side, beside one that does and then says
     nothing for longer: it is served on. The server has five workers: a sixth client is met once one of the
     four is gone."""
     seconds = {}
 
     def time_of(act):
-        seconds[act.__name__] = gone_after(port, act)
+        seconds[act.__name__] = gone_after(place, act)
 
     threads = [threading.Thread(target=time_of, args=(act,)) for act in (silent, slow, deaf, curious)]
-    patient = Client(port, timeout=60)
+    patient = Client(place, timeout=60)
     begun = time.monotonic()
     for thread in threads:
         thread.start()
     time.sleep(0.5)
-    last = Client(port, timeout=60)
+    last = Client(place, timeout=60)
     seconds["the sixth"] = time.monotonic() - begun
     last.disconnect()
     for thread in threads:
         thread.join()
-    # (one that takes nothing is dropped once a write had to wait for half of the time that was left)
+    # (one that takes nothing is dropped once a write had to wait for half of the time that was left; a socket with
+    # a file takes an answer whole or not at all)
     for who, took in seconds.items():
-        assert (10 if who == "deaf" else 25) < took < 40, seconds
+        assert (10 if who == "deaf" or not isinstance(place, int) else 25) < took < 40, seconds
     time.sleep(max(0, begun + 31.5 - time.monotonic()))
     assert patient.read(0, 512) == bytes(512)
     patient.disconnect()
     print("four were dropped, a sixth was met, and the one that was through is served on")
 
 
-def unread(port):
+def unread(place):
     """A client that asks for more than it takes, of a server that is patient for a second."""
-    client = Client(port, timeout=30)
+    client = Client(place, timeout=30)
     for cookie in range(8):
         client.socket.sendall(request(READ, cookie, 0, 1 << 20))
     begun = time.monotonic()
@@ -113,9 +122,9 @@ def unread(port):
     print("dropped" if taken < 8 << 20 else "served")
 
 
-def idle(port):
+def idle(place):
     """A client that is silent for two seconds, and whether it is still served."""
-    client = Client(port)
+    client = Client(place)
     time.sleep(2.5)
     try:
         content = client.read(0, 512)
@@ -125,11 +134,11 @@ def idle(port):
         print("dropped")
 
 
-def many(port):
+def many(place):
     """One client stays, and forty others come one after the other: all are met."""
-    stays = Client(port)
+    stays = Client(place)
     for _ in range(40):
-        comes = Client(port)
+        comes = Client(place)
         assert comes.read(0, 512) == bytes(512)
         comes.disconnect()
     assert stays.read(0, 512) == bytes(512)
@@ -137,19 +146,20 @@ def many(port):
     print("41 were met")
 
 
-def crowd(port):
+def crowd(place):
     """More clients than there are descriptors for, and one that comes when they are gone."""
     opened = []
     for _ in range(8):
-        opened.append(socket.create_connection(("127.0.0.1", port), timeout=20))
+        opened.append(connected(place))
     time.sleep(1)
     for client in opened:
         client.close()
-    last = Client(port, timeout=60)
+    last = Client(place, timeout=60)
     assert last.read(0, 512) == bytes(512)
     last.disconnect()
     print("one was met behind the crowd")
 
 
 if __name__ == "__main__":
-    globals()[sys.argv[1]](int(sys.argv[2]))
+    WHERE = sys.argv[2]
+    globals()[sys.argv[1]](int(WHERE) if WHERE.isdecimal() else WHERE)

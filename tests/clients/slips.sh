@@ -315,7 +315,7 @@ mkdir folder
 says 2 "$device" "reencd: folder: Is a directory" format folder --key-file key
 says 2 "$device" "HOST:PORT" serve disk.img --plain --listen nowhere
 says 2 "$device" "HOST:PORT" serve disk.img --plain --listen 10809
-says 2 "$device" "HOST:PORT" serve disk.img --plain --listen unix:/x
+says 2 "$device" "reencd: unix:missing/x: No such file or directory" serve disk.img --plain --listen unix:missing/x
 serve_by good.img --key-file key --atom 4096
 keeps good.img 2 "$device" "reencd: good.img: locked by another process" init good.img --key-file key
 says 2 "$device" "reencd: 127.0.0.1:$port: Address already in use" serve disk.img --plain --listen "127.0.0.1:$port"

@@ -201,7 +201,7 @@ fn serve<'a>(alloc: Global) -> Result<Command<'a>, AllocError>
         Item::Valued {
             name: "listen",
             value: "ADDRESS",
-            help: "Where clients connect: HOST:PORT, or stdio",
+            help: "Where clients connect: HOST:PORT, unix:PATH, or stdio",
             required: true,
         },
         Item::Valued {

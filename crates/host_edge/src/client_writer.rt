@@ -2,10 +2,9 @@
 
 ghost use Rattle.std.specs.Prelude.{◌≡◌};
 
-use crate::streams::HangUp;
+use crate::streams::{HangUp, Peer};
 use io_edge::WritePair;
 use std::io::{self, ErrorKind, Stderr};
-use std::net::SocketAddr;
 
 /// What a client's answers are written to. A client that takes nothing of them for longer than the
 /// system was told to wait is dropped: the write fails, the connection is ended, so that nothing
@@ -14,12 +13,12 @@ use std::net::SocketAddr;
 pub struct ClientWriter<W: WritePair + HangUp> {
     writer: W,
     errors: Stderr,
-    peer: Option<SocketAddr>,
+    peer: Option<Peer>,
 }
 
 impl<W: WritePair + HangUp> ClientWriter<W> {
-    /// The answers to the client of this address go to the writer.
-    pub fn new(writer: W, errors: Stderr, peer: Option<SocketAddr>) -> ClientWriter<W>
+    /// The answers to this client go to the writer.
+    pub fn new(writer: W, errors: Stderr, peer: Option<Peer>) -> ClientWriter<W>
         ensures writer { result.writer ≡ writer }
     {
         ClientWriter {

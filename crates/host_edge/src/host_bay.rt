@@ -27,9 +27,10 @@ use std::time::Clock;
 const MAX_KEY: u32 = 513;
 
 /// The machine as a bay. A disk is the file or block device of its name, which nobody else uses,
-/// locked while it is open; a key is the file of its name. An address is `HOST:PORT`, where clients connect by TCP (port 0 is
-/// any that is free), or `stdio`, where standard input and output are the one client. What the
-/// system refuses is said on standard error, and so is where clients may connect.
+/// locked while it is open; a key is the file of its name. An address is `HOST:PORT`, where clients
+/// connect by TCP (port 0 is any that is free); `unix:PATH`, where a socket is made for its owner's
+/// clients; or `stdio`, where standard input and output are the one client. What the system refuses is
+/// said on standard error, and so is where clients may connect.
 #[derive(Drop)]
 pub struct HostBay<R: FileSystem + Network + Clock + Copy + Drop> {
     machine: R,

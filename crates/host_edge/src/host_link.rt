@@ -15,14 +15,13 @@ use crate::client_writer::ClientWriter;
 use crate::door::Door;
 use crate::network::{Listener, Network, passes};
 use crate::notices::{announce, complain};
-use crate::streams::{HostReader, HostWriter};
+use crate::streams::{HostReader, HostWriter, Peer};
 use crate::watch::Watch;
 use base_terms::Failed;
 use bays::{Link, Manner};
 use io_edge::{GatheringWriter, StdSink, StdSource};
 use std::alloc::Global;
 use std::io::{self, BufReader, ErrorKind, Stderr};
-use std::net::SocketAddr;
 use std::thread::sleep;
 use std::time::{Clock, Duration};
 
@@ -75,7 +74,7 @@ pub struct HostLink<R: Network + Clock + Copy + Drop> {
     alloc: Global,
     errors: Stderr,
     manner: Manner,
-    peer: Option<SocketAddr>,
+    peer: Option<Peer>,
     left: u32,
     lent: u64,
     faults: u64,
@@ -115,7 +114,7 @@ impl<R: Network + Clock + Copy + Drop> HostLink<R> {
     }
 
     /// The connection of the next client at the door.
-    fn admit(&self) -> io::Result<(Option<SocketAddr>, (HostSource<R>, HostSink))>
+    fn admit(&self) -> io::Result<(Option<Peer>, (HostSource<R>, HostSink))>
         ensures met { IfOk result (λ given. MeetsAt R.Listener.meets self.now.door
             (Ok (reader_inner given.1.0.inner.reader, given.1.1.inner.writer.writer))) }
         ensures unread { IfOk result (λ given. reader_buffer given.1.0.inner.reader ≡ []) }
@@ -138,8 +137,8 @@ impl<R: Network + Clock + Copy + Drop> HostLink<R> {
         }
     }
 
-    /// A watch on a client of this address, where the clock can be read.
-    fn watch(&self, peer: Option<SocketAddr>) -> Option<Watch<R>>
+    /// A watch on this client, where the clock can be read.
+    fn watch(&self, peer: Option<Peer>) -> Option<Watch<R>>
         ensures { IfSome result (λ watch. (watch.idle_timeout ≡ self.now.manner.idle_timeout)
             × (watch.is_settled ≡ false)) }
     {
@@ -151,7 +150,7 @@ impl<R: Network + Clock + Copy + Drop> HostLink<R> {
 
     /// The connection of the next client at the door, waited for as long as the system wants
     /// descriptors or memory for it. That is said once.
-    fn wait_for_client(&self) -> io::Result<(Option<SocketAddr>, (HostSource<R>, HostSink))>
+    fn wait_for_client(&self) -> io::Result<(Option<Peer>, (HostSource<R>, HostSink))>
         ensures met { IfOk result (λ given. MeetsAt R.Listener.meets self.now.door
             (Ok (reader_inner given.1.0.inner.reader, given.1.1.inner.writer.writer))) }
         ensures unread { IfOk result (λ given. reader_buffer given.1.0.inner.reader ≡ []) }
@@ -194,7 +193,7 @@ impl<R: Network + Clock + Copy + Drop> HostLink<R> {
 /// Says on standard error where the clients of these links may connect, which have one door.
 pub(crate) fn announce_links<R: Network + Clock + Copy + Drop>(links: &[HostLink<R>]) {
     if let Some(link) = links.first() {
-        announce(link.errors, &link.door);
+        announce(link.errors, link.address.as_str(), &link.door);
     }
 }
 

@@ -16,6 +16,7 @@ mod host_link;
 mod network;
 mod notices;
 mod progress;
+mod socket_file;
 mod streams;
 mod watch;
 
@@ -26,7 +27,8 @@ pub use door::Door;
 pub use host_bay::HostBay;
 pub use host_file::HostFile;
 pub use host_link::{HostLink, HostSink, HostSource};
-pub use network::{Listener, Network, accept};
+pub use network::{HostListener, Listener, Network, accept};
 pub use progress::{Course, ProgressGate, Told};
-pub use streams::{HangUp, HostReader, HostWriter, Patient};
+pub use socket_file::SocketFile;
+pub use streams::{HangUp, HostReader, HostWriter, Patient, Peer};
 pub use watch::Watch;

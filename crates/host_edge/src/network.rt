@@ -4,9 +4,12 @@ ghost use Rattle.host_edge.specs.Clients.{Passes};
 ghost use Rattle.host_edge.specs.declared.streams.HostReader.{HostReader};
 ghost use Rattle.host_edge.specs.declared.streams.HostWriter.{HostWriter};
 
+use crate::socket_file::{SocketFile, listen_at};
 use crate::streams::{HostReader, HostWriter};
 use std::io::{self, ErrorKind};
 use std::net::{OpenListener, SocketAddr, TcpListener};
+use std::os::unix::net::UnixListener;
+use std::sync::Arc;
 
 /// Where clients come in. What its calls do is a matter of the system.
 pub trait Listener: Drop {
@@ -24,7 +27,7 @@ pub trait Listener: Drop {
     fn share(&self) -> io::Result<Self>
         ensures { shares self.now result };
 
-    /// Where it listens.
+    /// Where it listens, if that is a host and a port.
     fn address(&self) -> io::Result<SocketAddr>;
 }
 
@@ -35,34 +38,68 @@ pub trait Network {
     /// What listening at an address gives.
     ghost listens: { Self → List ℕ → Result Self.Listener Error → Type 0 };
 
-    /// Listens at the address, `HOST:PORT`.
+    /// Listens at the address, `HOST:PORT` or `unix:PATH`.
     fn listen(&self, address: &str) -> io::Result<Self::Listener>
         ensures { listens self.now address.now result };
 }
 
-impl Listener for TcpListener {
+/// A listener of the machine.
+#[derive(Drop)]
+pub enum HostListener {
+    /// At a host and a port, by TCP.
+    Tcp(TcpListener),
+    /// At a socket that has a file, which goes with the last handle.
+    Unix(Arc<SocketFile>, UnixListener),
+}
+
+impl Listener for HostListener {
     ghost meets = { λ _ _. Unit {0} };
 
     ghost shares = { λ _ _. Unit {0} };
 
-    /// A descriptor is kept for the second end while the client is waited for, so that one that was
-    /// met isn't turned away for want of it.
     fn meet(&self) -> io::Result<(HostReader, HostWriter)> {
-        let kept = self.try_clone()?;
-        let stream = accept(self)?;
-        drop(kept);
-        let _ = stream.set_nodelay(true);
-        let reader = HostReader::Socket(stream.try_clone()?);
-        Ok((reader, HostWriter::Socket(stream)))
+        match self {
+            HostListener::Tcp(listener) => meet_tcp(listener),
+            HostListener::Unix(_, listener) => meet_unix(listener),
+        }
     }
 
-    fn share(&self) -> io::Result<TcpListener> {
-        self.try_clone()
+    fn share(&self) -> io::Result<HostListener> {
+        match self {
+            HostListener::Tcp(listener) => Ok(HostListener::Tcp(listener.try_clone()?)),
+            HostListener::Unix(file, listener) => Ok(HostListener::Unix(
+                Arc::try_clone(file)?,
+                listener.try_clone()?,
+            )),
+        }
     }
 
     fn address(&self) -> io::Result<SocketAddr> {
-        self.local_addr()
+        match self {
+            HostListener::Tcp(listener) => listener.local_addr(),
+            HostListener::Unix(..) => Err(io::Error::from(ErrorKind::Unsupported)),
+        }
     }
+}
+
+/// The next client by TCP. A descriptor is kept for the second end while the client is waited for, so
+/// that one that was met isn't turned away for want of it.
+fn meet_tcp(listener: &TcpListener) -> io::Result<(HostReader, HostWriter)> {
+    let kept = listener.try_clone()?;
+    let stream = accept(listener)?;
+    drop(kept);
+    let _ = stream.set_nodelay(true);
+    let reader = HostReader::Socket(stream.try_clone()?);
+    Ok((reader, HostWriter::Socket(stream)))
+}
+
+/// Likewise the next one at a socket that has a file.
+fn meet_unix(listener: &UnixListener) -> io::Result<(HostReader, HostWriter)> {
+    let kept = listener.try_clone()?;
+    let (stream, _) = listener.accept()?;
+    drop(kept);
+    let reader = HostReader::Local(stream.try_clone()?);
+    Ok((reader, HostWriter::Local(stream)))
 }
 
 /// The next client of the listener. One that went away before it was met is passed over.
@@ -103,17 +140,22 @@ pub(crate) fn passes(error: &io::Error) -> bool
 
 /// The network of the machine.
 impl Network for HostRuntime {
-    type Listener = TcpListener;
+    type Listener = HostListener;
 
     ghost listens = { λ _ _ _. Unit {0} };
 
-    fn listen(&self, address: &str) -> io::Result<TcpListener> {
+    fn listen(&self, address: &str) -> io::Result<HostListener> {
+        if let Some(path) = address.strip_prefix("unix:") {
+            let (file, listener) = listen_at(self, path)?;
+            return Ok(HostListener::Unix(file, listener));
+        }
         match TcpListener::bind(self, address) {
+            Ok(listener) => Ok(HostListener::Tcp(listener)),
             Err(error) if error.kind() == ErrorKind::InvalidInput => {
-                let message = "no address: HOST:PORT, as 127.0.0.1:10809, or stdio";
+                let message = "no address: HOST:PORT, as 127.0.0.1:10809, unix:PATH, or stdio";
                 Err(io::Error::new(ErrorKind::InvalidInput, message))
             }
-            bound => bound,
+            Err(error) => Err(error),
         }
     }
 }

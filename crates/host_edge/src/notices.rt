@@ -20,11 +20,14 @@ fn without_number(text: &str) -> &str {
     }
 }
 
-/// Says in one line on standard error where clients may connect from now on.
-pub fn announce<L: Listener>(errors: Stderr, door: &Door<L>) {
-    if let Door::Listening(listener) = door
-        && let Ok(address) = listener.address()
-    {
-        let _ = eprintln!(errors; "reencd: listening on {address}");
-    }
+/// Says in one line on standard error where clients may connect from now on: the host and the port, or
+/// the address that was asked for where there are none.
+pub fn announce<L: Listener>(errors: Stderr, asked: &str, door: &Door<L>) {
+    let Door::Listening(listener) = door else {
+        return;
+    };
+    let _ = match listener.address() {
+        Ok(address) => eprintln!(errors; "reencd: listening on {address}"),
+        Err(_) => eprintln!(errors; "reencd: listening on {asked}"),
+    };
 }

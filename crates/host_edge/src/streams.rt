@@ -1,6 +1,9 @@
 use io_edge::WritePair;
+use std::fmt::{self, Display, Formatter};
 use std::io::{self, BufReader, IoSlice, Read, Stdin, Stdout, Write};
 use std::net::{Shutdown, SocketAddr, TcpStream};
+use std::os::fd::{AsRawFd, RawFd};
+use std::os::unix::net::UnixStream;
 use std::time::Duration;
 
 /// A stream of a connection, at which the system can be told how long to wait for the other side.
@@ -16,19 +19,37 @@ pub trait HangUp {
     fn hang_up(&self);
 }
 
+/// How a client is told of: by its address or, where it has none, by the number of its descriptor here.
+#[derive(Clone, Copy)]
+pub enum Peer {
+    Address(SocketAddr),
+    Local(RawFd),
+}
+
+impl Display for Peer {
+    fn fmt<W: fmt::Write>(&self, f: &mut Formatter<W>) -> fmt::Result {
+        match self {
+            Peer::Address(address) => write!(f, "{address}"),
+            Peer::Local(number) => write!(f, "unix client {number}"),
+        }
+    }
+}
+
 /// What a connection is read from.
 #[derive(Drop)]
 pub enum HostReader {
     Standard(Stdin),
     Socket(TcpStream),
+    Local(UnixStream),
 }
 
 impl HostReader {
-    /// The address of the client, where it has one.
-    pub fn peer(&self) -> Option<SocketAddr> {
+    /// How the client is told of, where that is known.
+    pub fn peer(&self) -> Option<Peer> {
         match self {
             HostReader::Standard(_) => None,
-            HostReader::Socket(stream) => stream.peer_addr().ok(),
+            HostReader::Socket(stream) => Some(Peer::Address(stream.peer_addr().ok()?)),
+            HostReader::Local(stream) => Some(Peer::Local(stream.as_raw_fd())),
         }
     }
 }
@@ -37,10 +58,15 @@ impl HostReader {
 /// streams wait without an end.
 impl Patient for HostReader {
     fn set_patience(&self, reads: Option<Duration>, writes: Option<Duration>) {
-        if let HostReader::Socket(stream) = self {
-            let _ = stream.set_read_timeout(reads);
-            let _ = stream.set_write_timeout(writes);
-        }
+        let _ = match self {
+            HostReader::Standard(_) => Ok(()),
+            HostReader::Socket(stream) => stream
+                .set_read_timeout(reads)
+                .and(stream.set_write_timeout(writes)),
+            HostReader::Local(stream) => stream
+                .set_read_timeout(reads)
+                .and(stream.set_write_timeout(writes)),
+        };
     }
 }
 
@@ -55,6 +81,7 @@ impl Read for HostReader {
         match self {
             HostReader::Standard(input) => input.read(buf),
             HostReader::Socket(stream) => stream.read(buf),
+            HostReader::Local(stream) => stream.read(buf),
         }
     }
 }
@@ -64,14 +91,17 @@ impl Read for HostReader {
 pub enum HostWriter {
     Standard(Stdout),
     Socket(TcpStream),
+    Local(UnixStream),
 }
 
 /// The standard streams are left as they are.
 impl HangUp for HostWriter {
     fn hang_up(&self) {
-        if let HostWriter::Socket(stream) = self {
-            let _ = stream.shutdown(Shutdown::Both);
-        }
+        let _ = match self {
+            HostWriter::Standard(_) => Ok(()),
+            HostWriter::Socket(stream) => stream.shutdown(Shutdown::Both),
+            HostWriter::Local(stream) => stream.shutdown(Shutdown::Both),
+        };
     }
 }
 
@@ -87,6 +117,9 @@ impl WritePair for HostWriter {
             HostWriter::Socket(stream) => {
                 TcpStream::write_vectored(stream, &[IoSlice::new(first), IoSlice::new(second)])
             }
+            HostWriter::Local(stream) => {
+                UnixStream::write_vectored(stream, &[IoSlice::new(first), IoSlice::new(second)])
+            }
         }
     }
 
@@ -94,6 +127,7 @@ impl WritePair for HostWriter {
         match self {
             HostWriter::Standard(output) => output.flush(),
             HostWriter::Socket(stream) => stream.flush(),
+            HostWriter::Local(stream) => stream.flush(),
         }
     }
 }

@@ -1,7 +1,7 @@
 // How long a client is waited for.
 
+use crate::streams::Peer;
 use std::io::{self, Stderr};
-use std::net::SocketAddr;
 use std::time::{Clock, Duration, Instant};
 
 /// How many milliseconds a client has for the whole negotiation.
@@ -12,7 +12,7 @@ const NEGOTIATION: u64 = 30_000;
 pub struct Watch<C: Clock + Copy> {
     clock: C,
     errors: Stderr,
-    peer: SocketAddr,
+    peer: Peer,
     since: Instant,
     idle_timeout: Option<u32>,
     pub(crate) is_settled: bool,
@@ -26,7 +26,7 @@ impl<C: Clock + Copy> Watch<C> {
     pub fn new(
         clock: C,
         errors: Stderr,
-        peer: SocketAddr,
+        peer: Peer,
         idle_timeout: Option<u32>,
     ) -> io::Result<Watch<C>>
         ensures idle_timeout { IfOk result (λ watch. watch.idle_timeout ≡ idle_timeout) }
