@@ -1,5 +1,5 @@
 -- Sizes and requirements that have a text, and who asks for something.
-use Rattle.std.specs.Prelude.{ℕ, ◌^◌, ◌-◌, ◌<◌, ◌||◌, not, Bool, true, false, List, []}
+use Rattle.std.specs.Prelude.{ℕ, ◌^◌, ◌<◌, ◌||◌, not, Bool, true, false, List, []}
 use Rattle.std.specs.Prelude.{◌∷◌, codes, Option, Some, None, IfSome}
 use Rattle.std.specs.Str.{bytes_eq}
 use Rattle.json_members.specs.Members.{Lacks, IsPlain}
