@@ -57,7 +57,7 @@ mkdir folder
     refuses 2 "fault 2 Device" "reencd: missing.img: No such file or directory" $(plain missing.img stdio)
     refuses 2 "fault 2 Device" "reencd: folder: Is a directory" $(plain folder stdio)
     refuses 8 "fault 8 NoFit" "reencd: small.img: the last 511 bytes aren't used: no whole atom of 512 bytes
-reencd: the disk has no room for a block (format begins the data at --data-offset, by default byte 16777216)" $(plain small.img stdio)
+reencd: the disk has no room for a block" $(plain small.img stdio)
     refuses 2 "fault 2 Device" "reencd: nowhere: no address: HOST:PORT, as 127.0.0.1:10809, unix:PATH, or stdio" $(plain disk.img nowhere)
     refuses 2 "fault 2 Device" "reencd: 127.0.0.1:65536: no address: HOST:PORT, as 127.0.0.1:10809, unix:PATH, or stdio" $(plain disk.img 127.0.0.1:65536)
     refuses 2 "fault 2 Device" "reencd: 192.0.2.1:10809: Cannot assign requested address" $(plain disk.img 192.0.2.1:10809)

@@ -28,15 +28,16 @@ refuses() {
 }
 
 echo "== the file"
-command -v strace >/dev/null && tracer=(strace -f -o calls -e "trace=fchmod,bind,listen")
+strace -o probe true 2>/dev/null && tracer=(strace -f -o calls -e "trace=fchmod,bind,listen")
 umask 0
 serve_at sock disk.img --plain --atom 512 --sessions 2 --workers 1 --verbose
 umask 22
 expect "what stands there" "$(stat -c '%F %a' sock)" "socket 600"
 expect "a client" "$(visits sock)" 8388608
 chmod 755 "$room"
-if [ "$(id -u)" = 0 ] && command -v setpriv >/dev/null && command -v nbdinfo >/dev/null; then
-    setpriv --reuid=65534 --regid=65534 --clear-groups nbdinfo --size "nbd+unix:///?socket=$room/sock" >out 2>err
+other=(setpriv --reuid=65534 --regid=65534 --clear-groups)
+if command -v nbdinfo >/dev/null && "${other[@]}" true 2>/dev/null; then
+    "${other[@]}" nbdinfo --size "nbd+unix:///?socket=$room/sock" >out 2>err
     expect "another user's client" "$? $(grep -o 'Permission denied' err)" "1 Permission denied"
 else
     echo "skipped: no other user can be asked"
@@ -46,7 +47,7 @@ served 2
 if [ ${#tracer[@]} != 0 ]; then
     expect "calls that make it" "$(grep -o '[a-z]*(\|, 0[0-7]*)' calls | paste -sd ' ')" "fchmod( , 0600) bind( listen("
 else
-    echo "skipped: there is no strace"
+    echo "skipped: strace traces nothing here"
 fi
 tracer=()
 expect "what is told" "$(told)" "reencd: listening on unix:sock
