@@ -128,7 +128,7 @@ served 1
 printf 'a passphrase' >key
 timeout 60 "$reencd" serve disk.img --key-file key --listen unix:sock >out 2>err </dev/null
 expect "serve of no volume" "$? $(cat out)" "3 fault 3 NoHeader"
-[ -e sock ] && fail "a socket was made for it"
+[ -e sock ] && fail "a socket is left of it"
 
 echo "== a path that another took meanwhile"
 serve_at sock disk.img --plain --atom 512 --sessions 1
@@ -156,9 +156,12 @@ stop TERM
 expect "lines of them" "$(told)" "reencd: listening on unix:sock
 reencd: unix client N: dropped, silent for 1 seconds
 reencd: unix client N: dropped, it takes no answers"
-tracer=(prlimit --nofile=14)
-if command -v prlimit >/dev/null && serve_at sock disk.img --plain --atom 512; then
+if command -v prlimit >/dev/null; then
+    tracer=(prlimit --nofile=14)
+    serve_at sock disk.img --plain --atom 512
     expect "few descriptors" "$(python3 "$here/silent.py" crowd sock)" "one was met behind the crowd"
     grep -q '^reencd: unix:sock: Too many open files$' stderr || fail "nothing is said of descriptors: $(cat stderr)"
     stop TERM
+else
+    echo "skipped: there is no prlimit"
 fi

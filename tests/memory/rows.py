@@ -13,6 +13,7 @@ conversion comes to its end or wants memory.
 
 import hashlib
 import itertools
+import math
 import os
 import re
 import struct
@@ -84,8 +85,9 @@ def cut(number, refused, stood, length):
 
 
 def judged(text, more, contents):
-    """How many operations and how many sessions wanted memory, and how many conversions."""
-    wanted = [0, 0, 0]
+    """How many operations wanted memory, how many sessions and how many conversions; and of how many runs all
+    blocks were compared."""
+    wanted = [0, 0, 0, 0]
     runs = re.split(f"^(?={COMMAND})", text, flags=re.M)[1:]
     if len(runs) != len(contents):
         raise SystemExit(f"failed: {more}: {text[:300]}")
@@ -109,22 +111,23 @@ def judged(text, more, contents):
             wanted[1] += match[2] != "Disconnected"
         wanted[1] += SESSIONS - len(found)
         wanted[2] += "state: reencrypt" in run
-        wanted[2] += same_blocks(lines, found, more)
+        wanted[3] += is_compared(lines, found, more)
     return tuple(wanted)
 
 
-def same_blocks(lines, found, more):
-    """Whether the last client, who reads all, wanted memory; it has to find what was written."""
+def is_compared(lines, found, more):
+    """Whether the last client was put all blocks, and few sessions are in doubt: it was put what they left then."""
     last = LINE.match(next((line for line in reversed(lines) if LINE.match(line)), ""))
     whole = OPENED + reply(0)
     if not last or last[2] != "Disconnected" or int(last[4]) != len(whole) + SESSIONS * BLOCKS * BLOCK or int(last[1]):
         return False
-    certain = all(len(found.get(number, (0, [0, 0]))[1]) == 1 for number in range(SESSIONS))
-    if certain:
-        content = b"".join(found[number][1][0] for number in range(SESSIONS))
-        if told(whole + content) != last[5]:
-            raise SystemExit(f"failed: {more}: other blocks than were written")
-    return False
+    left = [blocks for _, blocks in found.values()]
+    if len(left) < SESSIONS or math.prod(map(len, left)) > 256:
+        return False
+    choices = itertools.product(*(found[number][1] for number in range(SESSIONS)))
+    if not any(told(whole + b"".join(blocks)) == last[5] for blocks in choices):
+        raise SystemExit(f"failed: {more}: other blocks than were written")
+    return True
 
 
 def lines_of(**more):
@@ -156,17 +159,17 @@ def shortages(calls):
 
 
 def main():
-    runs, refused, wanted = 0, 0, [0, 0, 0]
+    runs, refused, wanted = 0, 0, [0, 0, 0, 0]
     contents = Contents("crowd", COMMAND).found
     # once also of the conversion's worker, whose thread is the first one, and once of clients alone
     for others in ({}, {"WANTING_OTHERS": "1"}):
         text, (calls, _) = lines_of(**others)
-        if judged(text, others, contents) != (0, 0, 0):
+        if judged(text, others, contents) != (0, 0, 0, len(contents)):
             raise SystemExit(f"failed: memory was wanted where none was refused: {text[:600]}")
         for more in shortages(calls):
             text, counts = lines_of(**more, **others)
             found = judged(text, more | others, contents)
-            if counts[1] == 0 and sum(found):
+            if counts[1] == 0 and any(found[:3]):
                 raise SystemExit(f"failed: {more | others}: memory was wanted where none was refused: {text[:600]}")
             runs, refused = runs + 1, refused + counts[1]
             wanted = [one + two for one, two in zip(wanted, found)]
@@ -174,7 +177,7 @@ def main():
         raise SystemExit(f"failed: too little was refused: {refused} calls, and {wanted} wanted memory")
     print(
         f"{runs} runs, of whose calls for memory {refused} were refused in all: {wanted[0]} operations and {wanted[1]} "
-        f"sessions wanted memory, and {wanted[2]} conversions of {2 * runs}"
+        f"sessions wanted memory, and {wanted[2]} conversions of {2 * runs}; all blocks were compared in {wanted[3]}"
     )
 
 
