@@ -36,17 +36,14 @@ const SCRIPTS: [&str; 18] = [
 
 fn main(rt: HostRuntime) -> Result<()> {
     let words: Vec<String> = env::args(&rt)?.skip(1).collect(rt.alloc())?;
-    let tool = Tool {
-        alloc: rt.alloc(),
-        threads: &rt,
-    };
+    let tool = Tool { alloc: rt.alloc() };
     if words.is_empty() {
         for script in SCRIPTS {
-            show_script(&rt, &tool, script)?;
+            show_script(&rt, &rt, &tool, script)?;
         }
     }
     for script in words {
-        show_script(&rt, &tool, script.as_str())?;
+        show_script(&rt, &rt, &tool, script.as_str())?;
     }
     Ok(())
 }

@@ -3,6 +3,7 @@
 ghost use Rattle.std.specs.Prelude.{◌≡◌};
 ghost use Rattle.reenc_meta.specs.Placements.{all_atoms};
 ghost use Rattle.sector_disk.specs.Geometry.{IsDisk};
+ghost use Rattle.std.specs.Thread.{IsSync};
 
 use crate::beginnings::begun;
 use anyhow::Result;
@@ -18,9 +19,8 @@ use test_script::{Finished, Program, ScriptGate, text_of};
 
 /// The commands of `reencd`, by its `run`.
 #[derive(Drop)]
-pub(crate) struct Tool<'a, T: Threads + Wait + Sync> {
+pub(crate) struct Tool {
     pub(crate) alloc: Global,
-    pub(crate) threads: &'a T,
 }
 
 /// Why no header is shown, or no volume was opened.
@@ -63,20 +63,20 @@ fn told(alloc: Global, ended: Ended<'_, MemDisk, MemLink>) -> Result<Finished> {
     })
 }
 
-impl<T: Threads + Wait + Sync> Program for Tool<'_, T> {
-    fn run(
+impl Program for Tool {
+    fn run<T: Threads + Wait + Sync>(
         &self,
+        threads: &T,
         words: &[String],
         bay: &mut MemBay,
         seeds: &mut FixedSeeds,
         out: &mut ListSink,
         gate: &ScriptGate<HostRuntime>,
-    ) -> Result<Finished> {
+    ) -> Result<Finished>
+        requires sync { IsSync T.row }
+    {
         let alloc = self.alloc;
-        told(
-            alloc,
-            run(self.threads, alloc, words, bay, seeds, out, gate),
-        )
+        told(alloc, run(threads, alloc, words, bay, seeds, out, gate))
     }
 
     fn begin(&self, valid: &Valid, words: &[&str]) -> Result<Result<String, String>> {

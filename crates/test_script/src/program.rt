@@ -1,6 +1,7 @@
 // What runs the commands of a script.
 
 ghost use Rattle.std.specs.Prelude.{◌≡◌};
+ghost use Rattle.std.specs.Thread.{IsSync};
 ghost use Rattle.reenc_meta.specs.Placements.{all_atoms};
 ghost use Rattle.sector_disk.specs.Geometry.{IsDisk};
 
@@ -11,6 +12,8 @@ use io_edge::{FixedSeeds, ListSink};
 use luks_rules::Valid;
 use memory_disks::MemDisk;
 use nbd_session::SessionEnd;
+use std::sync::Wait;
+use std::thread::Threads;
 
 /// A command that was run.
 #[derive(Drop)]
@@ -34,20 +37,22 @@ pub struct Finished {
 
 /// The program whose commands a script runs.
 pub trait Program {
-    /// Runs the command that the words ask for. The bay gives its disks, key files and clients; the seeds
+    /// Runs the command that the words ask for, by these threads. The bay gives its disks, key files and clients; the seeds
     /// what is drawn; it prints into the sink, and clients and a conversion pass the gate.
     ///
     /// # Errors
     ///
     /// What came of it can't be told.
-    fn run(
+    fn run<T: Threads + Wait + Sync>(
         &self,
+        threads: &T,
         words: &[String],
         bay: &mut MemBay,
         seeds: &mut FixedSeeds,
         out: &mut ListSink,
         gate: &ScriptGate<HostRuntime>,
-    ) -> Result<Finished>;
+    ) -> Result<Finished>
+        requires sync { IsSync T.row };
 
     /// The text of the metadata with which a conversion of a volume begins, under a new key of its
     /// own; or what stands in the way. Words are the passphrase, the bytes of the key and of a sector, the

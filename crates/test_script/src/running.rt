@@ -8,6 +8,8 @@ use crate::world::World;
 use anyhow::{Result, anyhow};
 use memory_disks::MemDisk;
 use std::alloc::Global;
+use std::sync::Wait;
+use std::thread::Threads;
 
 /// How a command ended, and its sessions.
 pub(crate) struct End {
@@ -133,6 +135,7 @@ fn outcome_of(alloc: Global, finished: Finished, heard: Heard) -> Result<Outcome
 /// Runs a command on these disks, for these clients.
 pub(crate) fn run_on(
     rt: &HostRuntime,
+    threads: &(impl Threads + Wait + Sync),
     program: &impl Program,
     world: &World,
     words: &str,
@@ -140,7 +143,7 @@ pub(crate) fn run_on(
     clients: &[Vec<u8>],
 ) -> Result<Outcome> {
     let mut setup = Setup::new(rt, world, words, disks, clients)?;
-    let finished = setup.run(program)?;
+    let finished = setup.run(threads, program)?;
     let heard = setup.heard(rt.alloc())?;
     outcome_of(rt.alloc(), finished, heard)
 }

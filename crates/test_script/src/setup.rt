@@ -10,6 +10,8 @@ use command_line::explain_words;
 use io_edge::{FixedSeeds, ListSink, ListSource};
 use memory_disks::MemDisk;
 use std::alloc::Global;
+use std::sync::Wait;
+use std::thread::Threads;
 
 /// What a command is run with.
 pub(crate) struct Setup {
@@ -161,7 +163,11 @@ impl Setup {
     }
 
     /// Runs the command.
-    pub(crate) fn run(&mut self, program: &impl Program) -> Result<Finished> {
+    pub(crate) fn run(
+        &mut self,
+        threads: &(impl Threads + Wait + Sync),
+        program: &impl Program,
+    ) -> Result<Finished> {
         let Setup {
             words,
             bay,
@@ -169,7 +175,7 @@ impl Setup {
             out,
             gate,
         } = self;
-        program.run(words.as_slice(), bay, seeds, out, gate)
+        program.run(threads, words.as_slice(), bay, seeds, out, gate)
     }
 
     /// What it printed, and what the gate was told.

@@ -13,6 +13,8 @@ use crate::world::{Next, World};
 use anyhow::{Context, Result};
 use memory_disks::MemDisk;
 use std::fs;
+use std::sync::Wait;
+use std::thread::Threads;
 
 /// The file of the names and the key files that all scripts have.
 const NAMES: &str = "names";
@@ -82,6 +84,7 @@ fn show_outcome(rt: &HostRuntime, outcome: &Outcome, is_loose: bool) -> Result<(
 /// Runs a command on the script's disks, and shows what comes of it.
 fn show_run(
     rt: &HostRuntime,
+    threads: &(impl Threads + Wait + Sync),
     program: &impl Program,
     world: &mut World,
     words: &str,
@@ -90,6 +93,7 @@ fn show_run(
     let disks = world.take_disks(rt.alloc())?;
     let outcome = run_on(
         rt,
+        threads,
         program,
         world,
         words,
@@ -127,6 +131,7 @@ fn trial<'a, P: Program>(
 /// Does what a line says, and shows what comes of it.
 fn do_line(
     rt: &HostRuntime,
+    threads: &(impl Threads + Wait + Sync),
     program: &impl Program,
     world: &mut World,
     line: Line<'_>,
@@ -157,10 +162,10 @@ fn do_line(
             let World { lexicon, stand, .. } = world;
             return show_metadata(rt, program, lexicon, stand, columns);
         }
-        Line::Run(words) => show_run(rt, program, world, words, false)?,
-        Line::Loose(words) => show_run(rt, program, world, words, true)?,
-        Line::Stops(words) => trial(rt, program, world, words).show_stops()?,
-        Line::Faults(words) => trial(rt, program, world, words).show_faults()?,
+        Line::Run(words) => show_run(rt, threads, program, world, words, false)?,
+        Line::Loose(words) => show_run(rt, threads, program, world, words, true)?,
+        Line::Stops(words) => trial(rt, program, world, words).show_stops(threads)?,
+        Line::Faults(words) => trial(rt, program, world, words).show_faults(threads)?,
     }
     world.next = Next::new(alloc)?;
     Ok(())
@@ -170,6 +175,7 @@ fn do_line(
 /// of it.
 fn show_lines(
     rt: &HostRuntime,
+    threads: &(impl Threads + Wait + Sync),
     program: &impl Program,
     world: &mut World,
     path: &str,
@@ -181,19 +187,25 @@ fn show_lines(
         if line.is_shown() {
             println!(rt; "{text}")?;
         }
-        do_line(rt, program, world, line)?;
+        do_line(rt, threads, program, world, line)?;
     }
     Ok(())
 }
 
-/// Shows what a script of the scripts' folder comes to, behind the names that all scripts have.
+/// Shows what a script of the scripts' folder comes to, behind the names that all scripts have. Its
+/// commands run by these threads.
 ///
 /// # Errors
 ///
 /// It can't be read or shown, or a line of it has no meaning.
-pub fn show_script(rt: &HostRuntime, program: &impl Program, path: &str) -> Result<()> {
+pub fn show_script(
+    rt: &HostRuntime,
+    threads: &(impl Threads + Wait + Sync),
+    program: &impl Program,
+    path: &str,
+) -> Result<()> {
     let mut world = World::new(rt.alloc())?;
     println!(rt; "{path}")?;
-    show_lines(rt, program, &mut world, NAMES)?;
-    show_lines(rt, program, &mut world, path)
+    show_lines(rt, threads, program, &mut world, NAMES)?;
+    show_lines(rt, threads, program, &mut world, path)
 }

@@ -8,6 +8,8 @@ use crate::world::World;
 use anyhow::{Result, anyhow};
 use sha2::{Digest, Sha256};
 use std::alloc::Global;
+use std::sync::Wait;
+use std::thread::Threads;
 
 /// The images of what a stop leaves that are tried.
 const IMAGES: [&str; 4] = ["oldest", "newest", "0,1", "1,0,1"];
@@ -31,6 +33,7 @@ impl<P: Program> Trial<'_, P> {
     /// Runs a command on a disk of these bytes, whose calls fail so, for these clients.
     fn run(
         &self,
+        threads: &(impl Threads + Wait + Sync),
         words: &str,
         bytes: &[u8],
         limit: Limit<'_>,
@@ -39,22 +42,42 @@ impl<P: Program> Trial<'_, P> {
         let alloc = self.rt.alloc();
         let mut disks = Vec::new(alloc);
         disks.push(self.world.disk()?.disk(alloc, bytes, limit)?)?;
-        run_on(self.rt, self.program, self.world, words, disks, clients)
+        run_on(
+            self.rt,
+            threads,
+            self.program,
+            self.world,
+            words,
+            disks,
+            clients,
+        )
     }
 
     /// How the command ends without a client on a disk of these bytes, whose calls fail so, and what
     /// is left of it.
-    fn left(&self, bytes: &[u8], limit: Limit<'_>, left: &str) -> Result<Left> {
-        self.run(self.words, bytes, limit, &[])?
+    fn left(
+        &self,
+        threads: &(impl Threads + Wait + Sync),
+        bytes: &[u8],
+        limit: Limit<'_>,
+        left: &str,
+    ) -> Result<Left> {
+        self.run(threads, self.words, bytes, limit, &[])?
             .into_left(self.rt.alloc(), left)
     }
 
     /// What the script's client is put at the end, of a disk of these bytes.
-    fn read(&self, bytes: &[u8]) -> Result<String> {
+    fn read(&self, threads: &(impl Threads + Wait + Sync), bytes: &[u8]) -> Result<String> {
         let alloc = self.rt.alloc();
         let next = &self.world.next;
         let clients = next.clients.as_slice();
-        let Outcome { end, .. } = self.run(next.reader.as_str(), bytes, NO_FAULT, clients)?;
+        let Outcome { end, .. } = self.run(
+            threads,
+            next.reader.as_str(),
+            bytes,
+            NO_FAULT,
+            clients,
+        )?;
         let sum = sum_of(alloc, end.put.as_slice())?;
         let Some(front) = sum.as_str().get(..16) else {
             return Err(anyhow!("no sum"));
@@ -63,38 +86,51 @@ impl<P: Program> Trial<'_, P> {
     }
 
     /// What `status` tells of the conversion of a disk of these bytes: the boundary and the zone.
-    fn state(&self, bytes: &[u8]) -> Result<String> {
+    fn state(&self, threads: &(impl Threads + Wait + Sync), bytes: &[u8]) -> Result<String> {
         let alloc = self.rt.alloc();
         let shelf = self.world.disk()?;
         let words = format!(in alloc; "status {} --atom {}", shelf.name, shelf.atom)?;
-        let Outcome { heard, .. } = self.run(words.as_str(), bytes, NO_FAULT, &[])?;
+        let Outcome { heard, .. } = self.run(threads, words.as_str(), bytes, NO_FAULT, &[])?;
         state_in(alloc, heard.text.as_str())
     }
 
     /// How an image goes on that a stop left: the command is stopped once more, and then it isn't,
     /// and the client is served. The images are hashed.
-    fn go_on(&self, image: &[u8], second: u64, left: &str, hasher: &mut Sha256) -> Result<String> {
+    fn go_on(
+        &self,
+        threads: &(impl Threads + Wait + Sync),
+        image: &[u8],
+        second: u64,
+        left: &str,
+        hasher: &mut Sha256,
+    ) -> Result<String> {
         let alloc = self.rt.alloc();
         hasher.update(image);
-        let again = self.left(image, Limit::Stop(second), left)?;
+        let again = self.left(threads, image, Limit::Stop(second), left)?;
         hasher.update(again.bytes.as_slice());
-        let state = self.state(again.bytes.as_slice())?;
-        let last = self.left(again.bytes.as_slice(), NO_FAULT, "held")?;
+        let state = self.state(threads, again.bytes.as_slice())?;
+        let last = self.left(threads, again.bytes.as_slice(), NO_FAULT, "held")?;
         hasher.update(last.bytes.as_slice());
-        let read = self.read(last.bytes.as_slice())?;
+        let read = self.read(threads, last.bytes.as_slice())?;
         let (again, last) = (again.end.status, last.end.status);
         Ok(format!(in alloc; "{again}, {state}, {last}, {read}")?)
     }
 
     /// What a stop comes to: how the command ended, and how four images go on.
-    fn stop(&self, bytes: &[u8], stop: u64, hasher: &mut Sha256) -> Result<String> {
+    fn stop(
+        &self,
+        threads: &(impl Threads + Wait + Sync),
+        bytes: &[u8],
+        stop: u64,
+        hasher: &mut Sha256,
+    ) -> Result<String> {
         let alloc = self.rt.alloc();
         let mut line = format!(in alloc; "{stop}:")?;
         for which in 0..IMAGES.len() {
             let left = IMAGES[which];
-            let image = self.left(bytes, Limit::Stop(stop), left)?;
+            let image = self.left(threads, bytes, Limit::Stop(stop), left)?;
             let second = second_of(self.world.next.again.as_slice(), stop, which)?;
-            let found = self.go_on(image.bytes.as_slice(), second, left, hasher)?;
+            let found = self.go_on(threads, image.bytes.as_slice(), second, left, hasher)?;
             line = if which == 0 {
                 format!(in alloc; "{line} {}; {found}", image.end.text)?
             } else {
@@ -106,8 +142,13 @@ impl<P: Program> Trial<'_, P> {
 
     /// How the command ends on a disk of these bytes whose calls fail so, what it prints, and how many
     /// calls it made; and what is on the disk.
-    fn fail(&self, bytes: &[u8], limit: Limit<'_>) -> Result<(String, Left)> {
-        let left = self.left(bytes, limit, "held")?;
+    fn fail(
+        &self,
+        threads: &(impl Threads + Wait + Sync),
+        bytes: &[u8],
+        limit: Limit<'_>,
+    ) -> Result<(String, Left)> {
+        let left = self.left(threads, bytes, limit, "held")?;
         let Left {
             end,
             heard,
@@ -120,11 +161,16 @@ impl<P: Program> Trial<'_, P> {
 
     /// The calls that the script tells, or where it tells none all that the command makes on a disk of
     /// these bytes, and so many behind the last one.
-    fn tried(&self, bytes: &[u8], more: u64) -> Result<Vec<u64>> {
+    fn tried(
+        &self,
+        threads: &(impl Threads + Wait + Sync),
+        bytes: &[u8],
+        more: u64,
+    ) -> Result<Vec<u64>> {
         if !self.world.next.tried.is_empty() {
             return Ok(self.world.next.tried.clone()?);
         }
-        let calls = self.left(bytes, NO_FAULT, "held")?.calls;
+        let calls = self.left(threads, bytes, NO_FAULT, "held")?.calls;
         let mut list = Vec::new(self.rt.alloc());
         for number in 0..calls.saturating_add(more) {
             list.push(number)?;
@@ -134,11 +180,11 @@ impl<P: Program> Trial<'_, P> {
 
     /// Stops the command within its device calls and behind the last one, and shows what each stop
     /// comes to, and the SHA-256 of all images and of what stands behind each.
-    pub(crate) fn show_stops(&self) -> Result<()> {
+    pub(crate) fn show_stops(&self, threads: &(impl Threads + Wait + Sync)) -> Result<()> {
         let bytes = self.world.disk()?.bytes.as_slice();
         let mut hasher = Sha256::new();
-        for stop in self.tried(bytes, 1)? {
-            let line = self.stop(bytes, stop, &mut hasher)?;
+        for stop in self.tried(threads, bytes, 1)? {
+            let line = self.stop(threads, bytes, stop, &mut hasher)?;
             println!(self.rt; "  {line}")?;
         }
         let sum = hex::encode(self.rt.alloc(), &hasher.finalize())?;
@@ -148,13 +194,13 @@ impl<P: Program> Trial<'_, P> {
 
     /// Lets device calls of the command fail in turn, and shows what each comes to, and how the command
     /// ends that is given again, behind which the client is served.
-    pub(crate) fn show_faults(&self) -> Result<()> {
+    pub(crate) fn show_faults(&self, threads: &(impl Threads + Wait + Sync)) -> Result<()> {
         let bytes = self.world.disk()?.bytes.as_slice();
-        for number in self.tried(bytes, 0)? {
-            let (first, left) = self.fail(bytes, Limit::Fail(&[number]))?;
+        for number in self.tried(threads, bytes, 0)? {
+            let (first, left) = self.fail(threads, bytes, Limit::Fail(&[number]))?;
             let sum = sum_of(self.rt.alloc(), left.bytes.as_slice())?;
-            let (again, left) = self.fail(left.bytes.as_slice(), NO_FAULT)?;
-            let read = self.read(left.bytes.as_slice())?;
+            let (again, left) = self.fail(threads, left.bytes.as_slice(), NO_FAULT)?;
+            let read = self.read(threads, left.bytes.as_slice())?;
             println!(self.rt; "  {number}: {first} {sum}; again {again}, {read}")?;
         }
         Ok(())
