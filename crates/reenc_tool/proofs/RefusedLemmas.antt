@@ -1,7 +1,7 @@
 -- A conversion that isn't led on keeps what its disk stood for.
 use Rattle.std.proofs.Common.{◌≡◌, ◌≢◌, ℕ, List, Option, Some, refl}
 use Rattle.aes_core.specs.declared.cipher.Aes.{Aes}
-use Rattle.conversion_opening.specs.declared.fault.ConversionCause.{ConversionCause}
+use Rattle.resume_disk.specs.declared.midway.fault.ConversionCause.{ConversionCause}
 use Rattle.header_report.specs.Examinations.{sizes_alone}
 use Rattle.sector_disk.specs.JoinedDisks.Joined.{Joint}
 use Rattle.reenc_recovery.specs.declared.keys.SideKeys.{SideKeys}

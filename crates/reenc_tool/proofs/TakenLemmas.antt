@@ -2,9 +2,9 @@
 use Rattle.std.proofs.Common.{◌≡◌, ◌≢◌, ◌∙◌, ◌*◌, inl, inr, ℕ, true, false, List, length}
 use Rattle.std.proofs.Common.{Option, Some, None, Ok, ap, subst, sym}
 use Rattle.std.proofs.lemmas.List.{length-replicate}
-use Rattle.conversion_opening.specs.Causes.{IsCauseIn}
-use Rattle.conversion_opening.specs.Openings.{IsOpenedOf, IsUnopened}
-use Rattle.conversion_opening.specs.declared.fault.ConversionCause.{ConversionCause}
+use Rattle.resume_disk.specs.OpenedMidway.Causes.{IsCauseIn}
+use Rattle.resume_disk.specs.OpenedMidway.Openings.{IsOpenedOf, IsUnopened}
+use Rattle.resume_disk.specs.declared.midway.fault.ConversionCause.{ConversionCause}
 use Rattle.base_terms.specs.declared.disk_sizes.Sizes.{Sizes}
 use Rattle.header_report.proofs.ExamineLemmas.{cause-later}
 use Rattle.header_report.specs.Examinations.{TellsFault, sizes_alone}

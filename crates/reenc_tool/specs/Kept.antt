@@ -1,7 +1,7 @@
 -- What a conversion that is led on keeps of what its disk stood for.
 use Rattle.std.specs.Prelude.{ℕ, ◌≡◌, ◌++◌, List, Option, Some, Ok}
 use Rattle.base_terms.specs.Blocks.{joined}
-use Rattle.conversion_opening.specs.declared.fault.ConversionCause.{ConversionCause}
+use Rattle.resume_disk.specs.declared.midway.fault.ConversionCause.{ConversionCause}
 use Rattle.header_report.specs.Examinations.{sizes_alone}
 use Rattle.sector_disk.specs.JoinedDisks.Joined.{Joint, joined_disk}
 use Rattle.luks_store.specs.Devices.{front_of}

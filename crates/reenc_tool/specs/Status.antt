@@ -9,8 +9,8 @@ use Rattle.reenc_tool.specs.declared.ended.Failing.TheVariants.{Reading, Startin
 use Rattle.reenc_tool.specs.declared.ended.Failing.TheVariants.{Converting}
 use Rattle.reenc_tool.specs.declared.ended.Fit.TheVariants.{Area, Blocks, Json, Passphrase, Seqid}
 use Rattle.reenc_tool.specs.declared.ended.Fit.TheVariants.{Events, Numbers, Tail}
-use Rattle.conversion_opening.specs.declared.fault.ConversionCause.{ConversionCause}
-use Rattle.conversion_opening.specs.declared.fault.ConversionCause.TheVariants as conversions
+use Rattle.resume_disk.specs.declared.midway.fault.ConversionCause.{ConversionCause}
+use Rattle.resume_disk.specs.declared.midway.fault.ConversionCause.TheVariants as conversions
 use Rattle.luks_format.specs.declared.format_disk.fault.FormatFault.{FormatFault}
 use Rattle.luks_format.specs.declared.format_disk.fault.FormatFault.TheVariants as formats
 use Rattle.luks_init.specs.declared.init_disk.making.MakeFault.{MakeFault}

@@ -1,11 +1,10 @@
 // Why a volume isn't opened, for people.
 
 use crate::volume_refusal::VolumeRefusal;
-use conversion_opening::ConversionCause;
 use header_report::FaultText;
 use luks_slots::{Refusal as SlotRefusal, SlotFault, SlotKind};
 use reenc_recovery::OpenCause;
-use resume_disk::Refusal as ResumeRefusal;
+use resume_disk::{ConversionCause, Refusal as ResumeRefusal};
 use segment_map::Side;
 use std::fmt;
 use volume_opening::Refusal as OpeningRefusal;

@@ -21,7 +21,6 @@ use crate::ended::{Cause, Ended, Failing, Fit, Sessions};
 use crate::volume_refusal::VolumeRefusal;
 use bays::Bay;
 use command_line::Resume;
-use conversion_opening::ConversionCause;
 use gates::Gate;
 use itoa::Buffer;
 use recovery_laws::{
@@ -31,7 +30,8 @@ use recovery_laws::{
 };
 use reenc_worker::{NoFit, WorkerEnd};
 use resume_disk::{
-    Finished, Halted, Refusal, Refused, Unfinished, resume_conversion, standing_conversions_end,
+    ConversionCause, Finished, Halted, Refusal, Refused, Unfinished, resume_conversion,
+    standing_conversions_end,
 };
 use sector_cipher::Context;
 use sector_disk::Disk;

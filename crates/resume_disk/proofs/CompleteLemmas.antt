@@ -3,9 +3,9 @@
 use Rattle.std.proofs.Common.{◌≡◌, ◌∙◌, ◌-◌, ◌^◌, ◌<◌, ◌≤◌, inl, inr, ℕ, List, Option, None, Some, IfSome}
 use Rattle.std.proofs.Common.{Err, ap, arith, refl, subst, sym}
 use Rattle.base_terms.specs.Causes.{Rose}
-use Rattle.conversion_opening.specs.Causes.{HasCauseIn}
-use Rattle.conversion_opening.specs.declared.fault.ConversionCause.{ConversionCause}
-use Rattle.conversion_opening.specs.declared.fault.ConversionCause.TheVariants as causes
+use Rattle.resume_disk.specs.OpenedMidway.Causes.{HasCauseIn}
+use Rattle.resume_disk.specs.declared.midway.fault.ConversionCause.{ConversionCause}
+use Rattle.resume_disk.specs.declared.midway.fault.ConversionCause.TheVariants as causes
 use Rattle.header_report.specs.Examinations.{sizes_alone}
 use Rattle.sector_disk.specs.JoinedDisks.Joined.{Joint, in_front, joined_disk}
 use Rattle.luks_meta.specs.declared.meta.Parts.{Parts}

@@ -2,8 +2,8 @@
 use Rattle.std.proofs.Common.{◌≡◌, ◌≤◌, ℕ, Bool, false, true, List, Option, None, Some, Result, Ok, Err}
 use Rattle.std.proofs.Common.{ap, arith}
 use Rattle.base_terms.specs.declared.failed.Failed.{Failed}
-use Rattle.conversion_opening.specs.Openings.{IsOpenedOf}
-use Rattle.conversion_opening.specs.Runs.{LeadsTo, last_of, mends, rests}
+use Rattle.resume_disk.specs.OpenedMidway.Openings.{IsOpenedOf}
+use Rattle.resume_disk.specs.OpenedMidway.Runs.{LeadsTo, last_of, mends, rests}
 use Rattle.base_terms.specs.declared.disk_sizes.Sizes.{Sizes}
 use Rattle.sector_disk.specs.JoinedDisks.Joined.{Joint, joined_disk}
 use Rattle.luks_store.specs.Copying.Steps.{CopyCall}

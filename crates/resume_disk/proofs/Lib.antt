@@ -1,3 +1,4 @@
+pub mod OpenedMidway
 mod KeyLemmas
 mod RightLemmas
 mod ShortLemmas

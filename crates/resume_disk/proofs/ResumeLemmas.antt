@@ -1,9 +1,9 @@
 -- What was opened on a disk, or wasn't, under the keys that were found there.
 use Rattle.std.proofs.Common.{◌≡◌, ◌∙◌, ℕ, ◌*◌, List, length, ap, ap₂, sym, subst, refl, Option}
 use Rattle.std.proofs.Common.{Some, None, true, false}
-use Rattle.conversion_opening.specs.Causes.{HasCauseIn, IsCauseIn}
-use Rattle.conversion_opening.specs.Openings.{IsOpenedOf, IsUnopened}
-use Rattle.conversion_opening.specs.declared.fault.ConversionCause.{ConversionCause}
+use Rattle.resume_disk.specs.OpenedMidway.Causes.{HasCauseIn, IsCauseIn}
+use Rattle.resume_disk.specs.OpenedMidway.Openings.{IsOpenedOf, IsUnopened}
+use Rattle.resume_disk.specs.declared.midway.fault.ConversionCause.{ConversionCause}
 use Rattle.base_terms.specs.declared.disk_sizes.Sizes.{Sizes}
 use Rattle.header_report.proofs.ExamineLemmas.{alone_values, whole_front}
 use Rattle.header_report.specs.Examinations.{sizes_alone}

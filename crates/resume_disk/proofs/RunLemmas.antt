@@ -1,7 +1,7 @@
 -- A conversion that was opened and led on.
 use Rattle.std.proofs.Common.{◌≡◌, ◌≢◌, ◌∙◌, ℕ, zero, suc, List, replicate, ap, sym, subst, refl}
 use Rattle.std.proofs.Common.{true, false, Option, Some, None, Result, Ok, Err, IsSome, IfOk, IfErr}
-use Rattle.conversion_opening.specs.Openings.{IsOpenedOf}
+use Rattle.resume_disk.specs.OpenedMidway.Openings.{IsOpenedOf}
 use Rattle.crash_laws.specs.HeaderAreas.Headers.{Header, Layout}
 use Rattle.base_terms.specs.declared.disk_sizes.Sizes.{Sizes}
 use Rattle.header_report.specs.Examinations.{sizes_alone}

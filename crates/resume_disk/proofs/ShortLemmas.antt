@@ -2,9 +2,9 @@
 -- wanted or a device call failed, or where the conversion can't be led on by its header.
 use Rattle.std.proofs.Common.{◌≡◌, ◌∙◌, inl, inr, ℕ, true, false, List, [], ◌∷◌, ◌++◌, sym}
 use Rattle.std.proofs.Common.{subst, append_assoc, Option, Some, Result, Ok}
-use Rattle.conversion_opening.specs.Causes.{IsCauseIn}
-use Rattle.conversion_opening.specs.declared.fault.ConversionCause.{ConversionCause}
-use Rattle.conversion_opening.specs.declared.fault.ConversionCause.TheVariants as causes
+use Rattle.resume_disk.specs.OpenedMidway.Causes.{IsCauseIn}
+use Rattle.resume_disk.specs.declared.midway.fault.ConversionCause.{ConversionCause}
+use Rattle.resume_disk.specs.declared.midway.fault.ConversionCause.TheVariants as causes
 use Rattle.base_terms.specs.declared.disk_sizes.Sizes.{Sizes}
 use Rattle.header_report.specs.Examinations.{sizes_alone}
 use Rattle.luks_meta.specs.declared.meta.Parts.{Parts}

@@ -2,9 +2,9 @@
 use Rattle.std.proofs.Common.{◌≡◌, ◌∙◌, ◌*◌, inl, inr, ℕ, true, false, List, length, Option, Some, None}
 use Rattle.std.proofs.Common.{Ok, Err, IsSome, ap, arith, sym, subst}
 use Rattle.std.specs.Prelude.{option_and_then}
-use Rattle.conversion_opening.specs.Causes.{IsCauseIn}
-use Rattle.conversion_opening.specs.declared.fault.ConversionCause.{ConversionCause}
-use Rattle.conversion_opening.specs.declared.fault.ConversionCause.TheVariants as causes
+use Rattle.resume_disk.specs.OpenedMidway.Causes.{IsCauseIn}
+use Rattle.resume_disk.specs.declared.midway.fault.ConversionCause.{ConversionCause}
+use Rattle.resume_disk.specs.declared.midway.fault.ConversionCause.TheVariants as causes
 use Rattle.base_terms.specs.declared.disk_sizes.Sizes.{Sizes}
 use Rattle.header_report.proofs.ExamineLemmas.{whole_front}
 use Rattle.header_report.specs.Examinations.{sizes_alone}

@@ -1,7 +1,7 @@
 -- Why a conversion of a disk that stands isn't led to its end though no device call failed.
 use Rattle.std.specs.Prelude.{ℕ, ◌≡◌, ◌<◌, ◌-◌, ◌^◌, List, IfSome, Option, Some}
-use Rattle.conversion_opening.specs.declared.fault.ConversionCause.{ConversionCause}
-use Rattle.conversion_opening.specs.declared.fault.ConversionCause.TheVariants as causes
+use Rattle.resume_disk.specs.declared.midway.fault.ConversionCause.{ConversionCause}
+use Rattle.resume_disk.specs.declared.midway.fault.ConversionCause.TheVariants as causes
 use Rattle.header_report.specs.Examinations.{sizes_alone}
 use Rattle.luks_slots.specs.declared.fault.SlotFault.{SlotFault}
 use Rattle.luks_slots.specs.declared.fault.SlotFault.TheVariants as slots

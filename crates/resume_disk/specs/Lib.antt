@@ -1,3 +1,4 @@
+pub mod OpenedMidway
 pub mod Keys
 pub mod Resuming
 pub mod Refusals

@@ -1,9 +1,9 @@
 -- Why a conversion on a disk isn't at its end, and what that leaves.
 use Rattle.std.specs.Prelude.{ℕ, ◌≡◌, List, Option, Some, None, true}
-use Rattle.conversion_opening.specs.Causes.{HasCauseIn, IsCauseIn}
-use Rattle.conversion_opening.specs.Openings.{IsUnopened}
-use Rattle.conversion_opening.specs.declared.fault.ConversionCause.{ConversionCause}
-use Rattle.conversion_opening.specs.declared.fault.ConversionCause.TheVariants as causes
+use Rattle.resume_disk.specs.OpenedMidway.Causes.{HasCauseIn, IsCauseIn}
+use Rattle.resume_disk.specs.OpenedMidway.Openings.{IsUnopened}
+use Rattle.resume_disk.specs.declared.midway.fault.ConversionCause.{ConversionCause}
+use Rattle.resume_disk.specs.declared.midway.fault.ConversionCause.TheVariants as causes
 use Rattle.base_terms.specs.declared.disk_sizes.Sizes.{Sizes}
 use Rattle.header_report.specs.Examinations.{TellsFault, sizes_alone}
 use Rattle.sector_disk.specs.JoinedDisks.Joined.{Joint, joined_disk}

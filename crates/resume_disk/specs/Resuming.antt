@@ -1,6 +1,6 @@
 -- What a conversion is that was opened on a disk and led on from there, up to an end.
 use Rattle.std.specs.Prelude.{ℕ, ◌≡◌, ◌≢◌, ◌*◌, List, length, Option, Some, false}
-use Rattle.conversion_opening.specs.Openings.{IsOpenedOf}
+use Rattle.resume_disk.specs.OpenedMidway.Openings.{IsOpenedOf}
 use Rattle.header_report.specs.Examinations.{sizes_alone}
 use Rattle.sector_disk.specs.JoinedDisks.Counts.{HasSizes}
 use Rattle.sector_disk.specs.JoinedDisks.Joined.{Joint, joined_disk}

@@ -2,7 +2,7 @@
 //! zone after zone is converted (LUKS2 On-Disk Format Specification 1.1, sections 2, 3 and 5).
 //!
 //! The layer above may rely on [`resume_conversion`]. The header is read, and the keyslots give the
-//! keys of both sides to the passphrase; then `conversion_opening` opens the volume, by which a zone
+//! keys of both sides to the passphrase; then [`open_conversion`] opens the volume, by which a zone
 //! that a stop left open is written again, and `volume_core` leads the conversion on. By
 //! `IsFinishedBy` every block is new once it is at its end, by a header that converts nothing, and
 //! each call that was made since is one of the opening or of a step of the volume's worker. Else it
@@ -15,14 +15,22 @@
 //! who do something else with it than lead its conversion to the end. By `IsOpenedMidway` it is the volume
 //! of the header that the disk has, under the keys that its keyslots give to the passphrase, in order
 //! and with nothing under way. [`find_side_keys`] finds those keys.
+//!
+//! `midway` opens a volume under way by keys at hand; its parts are public calls for those who have
+//! more to check.
 #![tactic(auto)]
 
+mod midway;
 mod refusal;
 mod resuming;
 mod standing;
 mod taking;
 mod unlocking;
 
+pub use midway::{
+    Begun, ConversionCause, ConversionFault, Course, check_conversion, find_sides, make_steps,
+    open_conversion,
+};
 pub use refusal::{Finished, Halted, Refusal, Refused, Unfinished};
 pub use resuming::resume_conversion;
 pub use standing::{standing_conversions_are_led_on, standing_conversions_end};

@@ -1,6 +1,6 @@
 // Why a conversion isn't at its end.
 
-use conversion_opening::ConversionCause;
+use crate::midway::ConversionCause;
 use luks_slots::SlotFault;
 use luks_store::StoreFault;
 use reenc_worker::WorkerEnd;

@@ -4,10 +4,10 @@ ghost use Rattle.std.specs.Prelude.{◌<◌, IfErr, IfOk};
 ghost use Rattle.resume_disk.specs.Refusals.{IsRefusedBy};
 ghost use Rattle.resume_disk.specs.Resuming.{IsOpenedMidway};
 
+use crate::midway::{ConversionFault, open_conversion};
 use crate::refusal::{Refusal, Refused};
 use crate::unlocking::unlock_sides;
 use cipher_laws::SectorCipher;
-use conversion_opening::{ConversionFault, open_conversion};
 use gates::Gate;
 use reenc_recovery::disks_tell_lawfully;
 use sector_cipher::Context;

@@ -5,8 +5,8 @@ use Rattle.std.proofs.Common.{Result, ap, drop, refl, subst, sym}
 use Rattle.std.specs.Prelude.{option_and_then}
 use Rattle.base_terms.specs.Blocks.{joined}
 use Rattle.base_terms.specs.declared.failed.Failed.{Failed}
-use Rattle.conversion_opening.specs.Openings.{IsFound}
-use Rattle.conversion_opening.specs.Runs.{MendsZone, last_of}
+use Rattle.resume_disk.specs.OpenedMidway.Openings.{IsFound}
+use Rattle.resume_disk.specs.OpenedMidway.Runs.{MendsZone, last_of}
 use Rattle.base_terms.specs.declared.disk_sizes.Sizes.{Sizes}
 use Rattle.sector_disk.specs.JoinedDisks.Joined.{Joint, joined_disk}
 use Rattle.luks_meta.specs.declared.digest.Digest.{Digest}

@@ -1,10 +1,11 @@
 -- What is kept while a volume is opened that is being converted, whether one is made or not.
 use Rattle.std.proofs.Common.{◌≡◌, inl, inr, ℕ, List, true, Ok, arith, subst, sym}
-use Rattle.conversion_opening.specs.Openings.{IsFound, IsNotLedOn, IsOpenedOf, IsUnopened}
-use Rattle.conversion_opening.specs.Openings.{not_led_on, only_read, unarmed, uncalled, unmended}
-use Rattle.conversion_opening.specs.Openings.{unrepaired, unsynced}
-use Rattle.conversion_opening.specs.Runs.{LeadsTo, MendsZone, mends, rests}
-use Rattle.conversion_opening.specs.declared.fault.ConversionCause.{ConversionCause}
+use Rattle.resume_disk.specs.OpenedMidway.Openings.{IsFound, IsNotLedOn, IsOpenedOf, IsUnopened}
+use Rattle.resume_disk.specs.OpenedMidway.Openings.{not_led_on, only_read, unarmed, uncalled}
+use Rattle.resume_disk.specs.OpenedMidway.Openings.{unmended}
+use Rattle.resume_disk.specs.OpenedMidway.Openings.{unrepaired, unsynced}
+use Rattle.resume_disk.specs.OpenedMidway.Runs.{LeadsTo, MendsZone, mends, rests}
+use Rattle.resume_disk.specs.declared.midway.fault.ConversionCause.{ConversionCause}
 use Rattle.base_terms.specs.declared.disk_sizes.Sizes.{Sizes}
 use Rattle.hotzone.specs.Workers.{MayGoOn}
 use Rattle.sector_disk.specs.JoinedDisks.Joined.{Joint, joined_disk}

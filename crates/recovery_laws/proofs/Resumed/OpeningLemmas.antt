@@ -5,8 +5,8 @@ use Rattle.std.proofs.Math.Nat.{le_of_mul-le-mul_right}
 use Rattle.std.specs.Prelude.{IsSomeAnd}
 use Rattle.base_terms.specs.Blocks.{joined}
 use Rattle.base_terms.specs.declared.failed.Failed.{Failed}
-use Rattle.conversion_opening.specs.Openings.{IsFound}
-use Rattle.conversion_opening.specs.Runs.{MendsZone, last_of}
+use Rattle.resume_disk.specs.OpenedMidway.Openings.{IsFound}
+use Rattle.resume_disk.specs.OpenedMidway.Runs.{MendsZone, last_of}
 use Rattle.crash_laws.specs.HeaderAreas.Headers.{IsLaidOut}
 use Rattle.base_terms.specs.declared.disk_sizes.Sizes.{Sizes}
 use Rattle.hotzone.proofs.CallLemmas.{table-long}

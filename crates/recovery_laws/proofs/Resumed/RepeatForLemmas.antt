@@ -3,10 +3,12 @@
 use Rattle.std.proofs.Common.{◌≡◌, inl, inr, ℕ, true, false, List, Ok, Result, Some, refl, subst, sym}
 use Rattle.base_terms.specs.Blocks.{joined}
 use Rattle.base_terms.specs.declared.failed.Failed.{Failed}
-use Rattle.conversion_opening.specs.Openings.{IsFound, IsNotLedOn, IsUnopened, not_led_on, only_read}
-use Rattle.conversion_opening.specs.Openings.{unarmed, uncalled, unmended, unrepaired, unsynced}
-use Rattle.conversion_opening.specs.Runs.{LeadsTo, MendsZone, mends, rests}
-use Rattle.conversion_opening.specs.declared.fault.ConversionCause.{ConversionCause}
+use Rattle.resume_disk.specs.OpenedMidway.Openings.{IsFound, IsNotLedOn, IsUnopened, not_led_on}
+use Rattle.resume_disk.specs.OpenedMidway.Openings.{only_read}
+use Rattle.resume_disk.specs.OpenedMidway.Openings.{unarmed, uncalled, unmended, unrepaired}
+use Rattle.resume_disk.specs.OpenedMidway.Openings.{unsynced}
+use Rattle.resume_disk.specs.OpenedMidway.Runs.{LeadsTo, MendsZone, mends, rests}
+use Rattle.resume_disk.specs.declared.midway.fault.ConversionCause.{ConversionCause}
 use Rattle.base_terms.specs.declared.disk_sizes.Sizes.{Sizes}
 use Rattle.hotzone.specs.Workers.{MayGoOn}
 use Rattle.sector_disk.specs.JoinedDisks.Joined.{Joint, joined_disk}

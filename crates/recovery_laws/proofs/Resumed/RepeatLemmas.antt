@@ -3,9 +3,11 @@
 use Rattle.std.proofs.Common.{◌≡◌, inl, inr, ℕ, true, false, List}
 use Rattle.std.proofs.Common.{Some, Ok, subst, sym}
 use Rattle.base_terms.specs.Blocks.{joined}
-use Rattle.conversion_opening.specs.Openings.{IsFound, IsNotLedOn, IsUnopened, not_led_on, only_read}
-use Rattle.conversion_opening.specs.Openings.{unarmed, uncalled, unmended, unrepaired, unsynced}
-use Rattle.conversion_opening.specs.declared.fault.ConversionCause.{ConversionCause}
+use Rattle.resume_disk.specs.OpenedMidway.Openings.{IsFound, IsNotLedOn, IsUnopened, not_led_on}
+use Rattle.resume_disk.specs.OpenedMidway.Openings.{only_read}
+use Rattle.resume_disk.specs.OpenedMidway.Openings.{unarmed, uncalled, unmended, unrepaired}
+use Rattle.resume_disk.specs.OpenedMidway.Openings.{unsynced}
+use Rattle.resume_disk.specs.declared.midway.fault.ConversionCause.{ConversionCause}
 use Rattle.base_terms.specs.declared.disk_sizes.Sizes.{Sizes}
 use Rattle.sector_disk.specs.JoinedDisks.Joined.{Joint, joined_disk}
 use Rattle.luks_rules.specs.Segments.{in_progress}

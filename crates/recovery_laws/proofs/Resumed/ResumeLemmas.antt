@@ -4,7 +4,7 @@ use Rattle.std.proofs.Common.{◌≡◌, ◌⊎◌, ◌∙◌, ◌*◌, ◌++◌
 use Rattle.std.proofs.Common.{refl, subst, sym}
 use Rattle.std.proofs.lemmas.List.Elements.{Contains-push_cases}
 use Rattle.std.specs.Prelude.{Contains}
-use Rattle.conversion_opening.specs.Runs.{LeadsTo, mends, rests}
+use Rattle.resume_disk.specs.OpenedMidway.Runs.{LeadsTo, mends, rests}
 use Rattle.crash_laws.specs.HeaderAreas.Headers.{Copy, Header, IsHeader, IsReader, Layout, byte_of, text_of}
 use Rattle.base_terms.specs.declared.disk_sizes.Sizes.{Sizes}
 use Rattle.hotzone.proofs.CallLemmas.{table-long}

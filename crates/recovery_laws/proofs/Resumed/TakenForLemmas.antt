@@ -3,7 +3,7 @@
 use Rattle.std.proofs.Common.{◌≡◌, ◌∙◌, ◌++◌, inl, inr, ℕ, true, false, List, Ok, Some, ap, arith}
 use Rattle.std.proofs.Common.{subst, sym}
 use Rattle.base_terms.specs.Blocks.{joined}
-use Rattle.conversion_opening.specs.Runs.{LeadsTo, mends, rests}
+use Rattle.resume_disk.specs.OpenedMidway.Runs.{LeadsTo, mends, rests}
 use Rattle.base_terms.specs.declared.disk_sizes.Sizes.{Sizes}
 use Rattle.hotzone.specs.Sites.{IsSaved}
 use Rattle.hotzone.specs.Workers.{MayGoOn}

@@ -1,9 +1,10 @@
 -- What is promised of the content of a volume whose conversion is taken up again, while it is opened.
 use Rattle.std.specs.Prelude.{ℕ, ◌≡◌, ◌*◌, ◌⊎◌, List, length, Option, Some, Ok}
-use Rattle.conversion_opening.specs.Openings.{IsNotLedOn, IsOpenedOf, IsUnopened, not_led_on}
-use Rattle.conversion_opening.specs.Openings.{only_read, unarmed, uncalled, unmended, unrepaired}
-use Rattle.conversion_opening.specs.Openings.{unsynced}
-use Rattle.conversion_opening.specs.declared.fault.ConversionCause.{ConversionCause}
+use Rattle.resume_disk.specs.OpenedMidway.Openings.{IsNotLedOn, IsOpenedOf, IsUnopened, not_led_on}
+use Rattle.resume_disk.specs.OpenedMidway.Openings.{only_read, unarmed, uncalled, unmended}
+use Rattle.resume_disk.specs.OpenedMidway.Openings.{unrepaired}
+use Rattle.resume_disk.specs.OpenedMidway.Openings.{unsynced}
+use Rattle.resume_disk.specs.declared.midway.fault.ConversionCause.{ConversionCause}
 use Rattle.base_terms.specs.declared.disk_sizes.Sizes.{Sizes}
 use Rattle.hotzone.specs.Workers.{MayGoOn}
 use Rattle.sector_disk.specs.JoinedDisks.Counts.{HasSizes}

@@ -1,6 +1,6 @@
 -- What is promised under a passphrase of a volume whose conversion is taken up again.
 use Rattle.std.specs.Prelude.{ℕ, ◌≡◌, ◌⊎◌, List, Some, Ok}
-use Rattle.conversion_opening.specs.Openings.{IsOpenedOf}
+use Rattle.resume_disk.specs.OpenedMidway.Openings.{IsOpenedOf}
 use Rattle.base_terms.specs.declared.disk_sizes.Sizes.{Sizes}
 use Rattle.hotzone.specs.Sites.{IsSaved}
 use Rattle.sector_disk.specs.JoinedDisks.Joined.{Joint}

@@ -2,10 +2,11 @@
 use Rattle.std.specs.Prelude.{ℕ, ◌≡◌, ◌⊎◌, ◌+◌, ◌*◌, ◌++◌, ◌<◌, List, [], length, drop, slice_index_or}
 use Rattle.std.specs.Prelude.{Option, None, Some, Ok}
 use Rattle.base_terms.specs.Blocks.{joined}
-use Rattle.conversion_opening.specs.Openings.{IsNotLedOn, IsOpenedOf, IsUnopened, not_led_on}
-use Rattle.conversion_opening.specs.Openings.{only_read, unarmed, uncalled, unmended, unrepaired}
-use Rattle.conversion_opening.specs.Openings.{unsynced}
-use Rattle.conversion_opening.specs.declared.fault.ConversionCause.{ConversionCause}
+use Rattle.resume_disk.specs.OpenedMidway.Openings.{IsNotLedOn, IsOpenedOf, IsUnopened, not_led_on}
+use Rattle.resume_disk.specs.OpenedMidway.Openings.{only_read, unarmed, uncalled, unmended}
+use Rattle.resume_disk.specs.OpenedMidway.Openings.{unrepaired}
+use Rattle.resume_disk.specs.OpenedMidway.Openings.{unsynced}
+use Rattle.resume_disk.specs.declared.midway.fault.ConversionCause.{ConversionCause}
 use Rattle.base_terms.specs.declared.disk_sizes.Sizes.{Sizes}
 use Rattle.hotzone.specs.Workers.{MayGoOn}
 use Rattle.sector_disk.specs.JoinedDisks.Counts.{HasSizes}

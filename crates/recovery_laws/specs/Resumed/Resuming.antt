@@ -1,6 +1,6 @@
 -- What is promised of a volume whose conversion is taken up again, and led to its end.
 use Rattle.std.specs.Prelude.{ℕ, ◌≡◌, ◌++◌, ◌∷◌, List, [], Some}
-use Rattle.conversion_opening.specs.Openings.{IsOpenedOf}
+use Rattle.resume_disk.specs.OpenedMidway.Openings.{IsOpenedOf}
 use Rattle.crash_laws.specs.HeaderAreas.Headers.{Handed, Header, text_of}
 use Rattle.base_terms.specs.declared.disk_sizes.Sizes.{Sizes}
 use Rattle.hotzone.specs.Sites.{IsSaved}

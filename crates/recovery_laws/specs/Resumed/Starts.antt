@@ -1,6 +1,6 @@
 -- How the runs of a volume begin whose conversion is taken up again.
 use Rattle.std.specs.Prelude.{ℕ, ◌≡◌, List, Some}
-use Rattle.conversion_opening.specs.Openings.{armed_volume}
+use Rattle.resume_disk.specs.OpenedMidway.Openings.{armed_volume}
 use Rattle.crash_laws.specs.HeaderAreas.Headers.{Layout}
 use Rattle.base_terms.specs.declared.disk_sizes.Sizes.{Sizes}
 use Rattle.luks_rules.specs.Shapes.{progress_of}

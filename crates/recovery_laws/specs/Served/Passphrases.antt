@@ -2,7 +2,7 @@
 -- and of one that is stopped, taken up and used again any number of times.
 use Rattle.std.specs.Prelude.{ℕ, ◌≡◌, ◌<◌, List, Some}
 use Rattle.base_terms.specs.Blocks.{joined}
-use Rattle.conversion_opening.specs.Openings.{IsOpenedOf}
+use Rattle.resume_disk.specs.OpenedMidway.Openings.{IsOpenedOf}
 use Rattle.base_terms.specs.declared.disk_sizes.Sizes.{Sizes}
 use Rattle.sector_disk.specs.DiskViews.Parts.{value_in}
 use Rattle.hotzone.specs.Sites.{IsSaved}

@@ -1,6 +1,0 @@
-mod SegmentLemmas
-mod VolumeLemmas
-mod StepLemmas
-mod CauseLemmas
-mod ArmLemmas
-mod OpenLemmas

@@ -1,7 +1,0 @@
-use Rattle.conversion_opening.proofs.StepLemmas.{tells}
-use Rattle.conversion_opening.proofs.opening.tell_lawfully.Goals as goal
-
-pub returns : goal.returns
-returns g c =
-    let law = c.disks_tell_lawfully.ensures in
-    tells _ law.agrees law.even law.bytes law.sized
