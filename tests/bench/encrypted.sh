@@ -56,6 +56,12 @@ milliseconds() {
     echo $((($(date +%s%N) - begun) / 1000000))
 }
 
+# Opens a volume for a client that goes again: FILE.
+unlock() {
+    "$reencd" serve "$1" --key-file key --listen unix:sock --sessions 1 </dev/null &
+    end_of $!
+}
+
 for _ in $(seq "${TURNS:-3}"); do
     for sector in 512 4096; do
         make_luks2 disk.img 1000 $sector
@@ -71,7 +77,7 @@ for _ in $(seq "${TURNS:-3}"); do
     time_all qemu
     end_kit
     make_luks2 slow.img 1000000 512
-    milliseconds "$reencd" serve slow.img --key-file key --listen stdio </dev/null >>unlock.reencd
+    milliseconds unlock slow.img >>unlock.reencd
     milliseconds cryptsetup open --test-passphrase --key-file key slow.img >>unlock.cryptsetup
 done
 printf '%-12s %-20s %-20s %-20s %-20s\n' request 'reencd 512' 'reencd 4096' nbdkit qemu-nbd

@@ -21,24 +21,21 @@ share_is workers sessions k n less = by_test (nat_lt k sessions) refl less
         omega (arith, most, mul-div-le (sessions - 1 - k) workers, ltb-true k sessions is)
     by_test false is below = absurd (omega (arith, below))
 
--- links that have their shares of so many sessions have no more than their shares of more
-pub bounded_by_shares : {L : Type 0} (state : L → LinkState) (workers sessions most : ℕ)
-    (links : List L) → sessions ≤ most →
-    AreShared (λ link. (state link).bound) workers sessions links →
-    AreBounded state workers most links
-bounded_by_shares state workers sessions most links few shared k link inside n less =
-    let below : k + workers * n < sessions =
-    share_is workers sessions k n (omega (arith, shared k link inside, less)) in
-    omega (arith, below, few)
+-- links that have their shares of so many sessions have no more than these
+pub bounded_by_shares : {L : Type 0} (state : L → LinkState) (workers sessions : ℕ)
+    (links : List L) → AreShared (λ link. (state link).bound) workers sessions links →
+    AreBounded state workers sessions links
+bounded_by_shares state workers sessions links shared k link inside n less =
+    share_is workers sessions k n (omega (arith, shared k link inside, less))
 
 -- the same of links that are there only where a call was done
 pub bounded_where : {L V E : Type 0} (state : L → LinkState) (items : V → List L)
-    (workers sessions most : ℕ) (result : Result V E) → sessions ≤ most →
+    (workers sessions : ℕ) (result : Result V E) →
     IfOk result (λ v. AreShared (λ link. (state link).bound) workers sessions (items v)) →
-    IfOk result (λ v. AreBounded state workers most (items v))
-bounded_where state items workers sessions most (Ok v) few shared =
-    bounded_by_shares state workers sessions most (items v) few shared
-bounded_where state items workers sessions most (Err e) few shared = tt
+    IfOk result (λ v. AreBounded state workers sessions (items v))
+bounded_where state items workers sessions (Ok v) shared =
+    bounded_by_shares state workers sessions (items v) shared
+bounded_where state items workers sessions (Err e) shared = tt
 
 -- what the first links have each in its place, and the next one has, all have
 pub all_more : {L : Type 0} (P : ℕ → L → Type 0) (n : ℕ) (links : List L) (next : L) →

@@ -4,8 +4,6 @@ use Rattle.std.specs.Prelude.{Option, Some, option_map, Result, Ok, Err, IsErrAn
 use Rattle.std.specs.IoError.{error_kind, raw_os_error}
 use Rattle.std.specs.declared.io.Error.{Error}
 use Rattle.std.specs.declared.io.ErrorKind.TheVariants.{OutOfMemory, TimedOut}
-use Rattle.host_edge.specs.Doors.{MeetsAt}
-use Rattle.host_edge.specs.declared.door.Door.{Door}
 use Rattle.host_edge.specs.declared.streams.HostReader.{HostReader}
 use Rattle.host_edge.specs.declared.streams.HostWriter.{HostWriter}
 use Rattle.host_edge.specs.declared.watch.Watch.{Watch}
@@ -28,9 +26,10 @@ abbrev pub Passes : Error → Type 0
 Passes error = (error_kind error ≡ OutOfMemory) ⊎ ((raw_os_error error ≡ Some (pos 23))
     ⊎ ((raw_os_error error ≡ Some (pos 24)) ⊎ (raw_os_error error ≡ Some (pos 105))))
 
--- no client is had at a door, by this error: the door refused one, or one was met and memory was
--- wanted for its connection
-abbrev pub MeetsNobody : {L : Type 0} → (L → Result (HostReader × HostWriter) Error → Type 0) →
-    Door L → Error → Type 0
-MeetsNobody meets door error = MeetsAt meets door (Err error) ⊎ ((error_kind error ≡ OutOfMemory)
-    × ((ends : HostReader × HostWriter) × MeetsAt meets door (Ok ends)))
+-- no client is had of a listener, by this error: it refused one, or one was met and memory was wanted
+-- for its connection
+abbrev pub MeetsNobody : {L : Type 0} → (L → Result (HostReader × HostWriter) Error → Type 0) → L →
+    Error → Type 0
+MeetsNobody meets listener error = meets listener (Err error)
+    ⊎ ((error_kind error ≡ OutOfMemory)
+    × ((ends : HostReader × HostWriter) × meets listener (Ok ends)))

@@ -1,4 +1,4 @@
 pub mod Clients
-pub mod Doors
+pub mod Listening
 pub mod Shares
 pub mod Untold

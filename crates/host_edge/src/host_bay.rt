@@ -1,26 +1,24 @@
-ghost use Rattle.std.specs.Prelude.{◌≡◌, ◌≢◌, ◌<◌, ◌≤◌, ◌⊎◌, ℕ, Ok, Err, IfOk, IfErr};
-ghost use Rattle.std.specs.Prelude.{MatchResult, codes, length, min, slice_index_or};
+ghost use Rattle.std.specs.Prelude.{◌≡◌, ◌<◌, ◌≤◌, ◌⊎◌, ℕ, Ok, Err, IfOk, IfErr};
+ghost use Rattle.std.specs.Prelude.{MatchResult, length, slice_index_or};
 ghost use Rattle.std.specs.IoError.{error_kind};
 ghost use Rattle.std.specs.declared.io.Error.{Error};
 ghost use Rattle.bays.specs.Bays.{AreBounded, FaultCounts, HasBayCause};
 ghost use Rattle.file_disk.specs.Opening.{OpensLocked, OpensToRead};
 ghost use Rattle.file_disk.specs.Sizes.{tail_behind, whole_atoms};
 ghost use Rattle.sector_disk.specs.Geometry.{IsAtom};
-ghost use Rattle.host_edge.specs.Doors.{HaveDoors, HaveManner, Listens, SharesDoor};
+ghost use Rattle.host_edge.specs.Listening.{HaveHandles, HaveManner, Listens};
 ghost use Rattle.host_edge.specs.Shares.{AreShared, share_of};
 ghost use Rattle.host_edge.specs.Untold.{CountsOne, FaultIs, untold_bay, untold_link};
-ghost use Rattle.host_edge.specs.declared.door.Door.{Door};
 
-use crate::door::Door;
 use crate::host_file::HostFile;
 use crate::host_link::{HostLink, announce_links};
-use crate::network::Network;
+use crate::network::{Listener, Network};
 use crate::notices::complain;
 use base_terms::Bytes;
 use bays::{Bay, BayFault, Manner};
 use file_disk::{FileDisk, FileSystem, open_for_reading, open_locked};
 use std::alloc::Global;
-use std::io::{self, ErrorKind, Stderr, Stdin, Stdout};
+use std::io::{self, ErrorKind, Stderr};
 use std::time::Clock;
 
 /// The most bytes that are taken of a key file.
@@ -28,31 +26,24 @@ const MAX_KEY: u32 = 513;
 
 /// The machine as a bay. A disk is the file or block device of its name, which nobody else uses,
 /// locked while it is open; a key is the file of its name. An address is `HOST:PORT`, where clients
-/// connect by TCP (port 0 is any that is free); `unix:PATH`, where a socket is made for its owner's
-/// clients; or `stdio`, where standard input and output are the one client. What the system refuses is
-/// said on standard error, and so is where clients may connect.
+/// connect by TCP (port 0 is any that is free), or `unix:PATH`, where a socket is made for its owner's
+/// clients. What the system refuses is said on standard error, and so is where clients may connect.
 #[derive(Drop)]
 pub struct HostBay<R: FileSystem + Network + Clock + Copy + Drop> {
     machine: R,
-    input: Stdin,
-    output: Stdout,
     errors: Stderr,
     faults: u64,
 }
 
 impl<R: FileSystem + Network + Clock + Copy + Drop> HostBay<R> {
-    /// A bay of this machine, with these standard streams.
-    pub fn new(machine: R, input: Stdin, output: Stdout, errors: Stderr) -> HostBay<R>
+    /// A bay of this machine, which says on this stream what the system refuses.
+    pub fn new(machine: R, errors: Stderr) -> HostBay<R>
         ensures machine { result.machine ≡ machine }
-        ensures input { result.input ≡ input }
-        ensures output { result.output ≡ output }
         ensures errors { result.errors ≡ errors }
         ensures faults { result.faults ≡ 0 }
     {
         HostBay {
             machine,
-            input,
-            output,
             errors,
             faults: 0,
         }
@@ -111,7 +102,7 @@ impl<R: FileSystem + Network + Clock + Copy + Drop> HostBay<R> {
         }
     }
 
-    /// The links of an address. Standard input and output are one session, whatever was asked for.
+    /// The links of an address.
     #[tactic(auto, using(crate::proofs::ShareLemmas::bounded_by_shares))]
     fn open_links(
         &self,
@@ -123,17 +114,12 @@ impl<R: FileSystem + Network + Clock + Copy + Drop> HostBay<R> {
     ) -> io::Result<Vec<HostLink<R>>>
         requires { 0 < workers }
         ensures count { IfOk result (λ links. length links.items ≡ workers) }
-        ensures listens { address.now ≢ codes "stdio" →
-            IfOk result (λ links. AreShared (λ link. link.left) workers sessions links.items) }
-        ensures standard { address.now ≡ codes "stdio" → IfOk result
-            (λ links. AreShared (λ link. link.left) workers (min sessions 1) links.items) }
-        ensures streams { address.now ≡ codes "stdio" → IfOk result (λ links. HaveDoors
-            R.Listener.shares (λ link. link.door) (Door.Standard self.now.input self.now.output)
-            workers links.items) }
-        ensures doors { address.now ≢ codes "stdio" → IfOk result (λ links. (listener : R.Listener)
+        ensures shared { IfOk result
+            (λ links. AreShared (λ link. link.left) workers sessions links.items) }
+        ensures listens { IfOk result (λ links. (listener : R.Listener)
             × R.listens self.now.machine address.now (Ok listener)
-            × HaveDoors R.Listener.shares (λ link. link.door) (Door.Listening listener)
-            workers links.items) }
+            × HaveHandles R.Listener.shares (λ link. link.listener) listener workers
+            links.items) }
         ensures manner { IfOk result
             (λ links. HaveManner (λ link. link.manner) manner workers links.items) }
         ensures bound { IfOk result (λ links. AreBounded
@@ -141,25 +127,21 @@ impl<R: FileSystem + Network + Clock + Copy + Drop> HostBay<R> {
         ensures refused { IfErr result (λ error. (error_kind error ≡ ErrorKind.OutOfMemory)
             ⊎ Listens (R.listens self.now.machine address.now) R.Listener.shares error) }
     {
-        if address == "stdio" {
-            let door = Door::Standard(self.input, self.output);
-            return self.share_door(alloc, address, &door, workers, sessions.min(1), manner);
-        }
         match self.machine.listen(address) {
             Ok(listener) => {
-                let door = Door::Listening(listener);
-                self.share_door(alloc, address, &door, workers, sessions, manner)
+                self.share_listener(alloc, address, &listener, workers, sessions, manner)
             }
             Err(error) => Err(error),
         }
     }
 
-    /// A link for each worker, all with the same door, to which the sessions are dealt in turn.
-    fn share_door(
+    /// A link for each worker, each with a handle of the same listener, to which the sessions are dealt
+    /// in turn.
+    fn share_listener(
         &self,
         alloc: Global,
         address: &str,
-        door: &Door<R::Listener>,
+        listener: &R::Listener,
         workers: u32,
         sessions: u32,
         manner: Manner,
@@ -168,18 +150,18 @@ impl<R: FileSystem + Network + Clock + Copy + Drop> HostBay<R> {
         ensures count { IfOk result (λ links. length links.items ≡ workers) }
         ensures shared { IfOk result
             (λ links. AreShared (λ link. link.left) workers sessions links.items) }
-        ensures doors { IfOk result (λ links. HaveDoors
-            R.Listener.shares (λ link. link.door) door.now workers links.items) }
+        ensures handles { IfOk result (λ links. HaveHandles
+            R.Listener.shares (λ link. link.listener) listener.now workers links.items) }
         ensures manner { IfOk result
             (λ links. HaveManner (λ link. link.manner) manner workers links.items) }
         ensures refused { IfErr result (λ error. (error_kind error ≡ ErrorKind.OutOfMemory)
-            ⊎ SharesDoor R.Listener.shares door.now (Err error)) }
+            ⊎ R.Listener.shares listener.now (Err error)) }
     {
         let mut links = Vec::with_capacity(alloc, workers as usize)?;
         for k in 0..workers {
             let address = String::from_str(alloc, address)?;
             let share = share_for(workers, sessions, k);
-            let own = match door.share() {
+            let own = match listener.share() {
                 Ok(own) => own,
                 Err(error) => return Err(error),
             };
@@ -293,17 +275,12 @@ impl<R: FileSystem + Network + Clock + Copy + Drop> Bay for HostBay<R> {
     ) -> Result<Vec<HostLink<R>>, BayFault>
         requires { 0 < workers }
         ensures count { IfOk result (λ links. length links.items ≡ workers) }
-        ensures listens { address.now ≢ codes "stdio" →
-            IfOk result (λ links. AreShared (λ link. link.left) workers sessions links.items) }
-        ensures standard { address.now ≡ codes "stdio" → IfOk result
-            (λ links. AreShared (λ link. link.left) workers (min sessions 1) links.items) }
-        ensures streams { address.now ≡ codes "stdio" → IfOk result (λ links. HaveDoors
-            R.Listener.shares (λ link. link.door) (Door.Standard self.old.input self.old.output)
-            workers links.items) }
-        ensures doors { address.now ≢ codes "stdio" → IfOk result (λ links. (listener : R.Listener)
+        ensures shared { IfOk result
+            (λ links. AreShared (λ link. link.left) workers sessions links.items) }
+        ensures listens { IfOk result (λ links. (listener : R.Listener)
             × R.listens self.old.machine address.now (Ok listener)
-            × HaveDoors R.Listener.shares (λ link. link.door) (Door.Listening listener)
-            workers links.items) }
+            × HaveHandles R.Listener.shares (λ link. link.listener) listener workers
+            links.items) }
         ensures refused { IfErr result (λ fault. fault ≡ BayFault.Failed → (error : Error)
             × Listens (R.listens self.old.machine address.now) R.Listener.shares error) }
         ensures manner { IfOk result

@@ -7,12 +7,10 @@ ghost use Rattle.base_terms.specs.Causes.{HasCause};
 ghost use Rattle.bays.specs.Stories.{CountsGiven, HasNoneAhead};
 ghost use Rattle.io_edge.specs.Faults.{Counts};
 ghost use Rattle.host_edge.specs.Clients.{MeetsNobody};
-ghost use Rattle.host_edge.specs.Doors.{MeetsAt};
 ghost use Rattle.host_edge.specs.Untold.{untold_link};
 
 use crate::client_stream::ClientStream;
 use crate::client_writer::ClientWriter;
-use crate::door::Door;
 use crate::network::{Listener, Network, passes};
 use crate::notices::{announce, complain};
 use crate::streams::{HostReader, HostWriter, Peer};
@@ -69,7 +67,7 @@ fn connection<C: Clock + Copy + Drop>(
 #[derive(Drop)]
 pub struct HostLink<R: Network + Clock + Copy + Drop> {
     machine: R,
-    door: Door<R::Listener>,
+    listener: R::Listener,
     address: String,
     alloc: Global,
     errors: Stderr,
@@ -82,18 +80,18 @@ pub struct HostLink<R: Network + Clock + Copy + Drop> {
 }
 
 impl<R: Network + Clock + Copy + Drop> HostLink<R> {
-    /// A link whose clients come in by this door, `sessions` of them. The address is what is told
+    /// A link whose clients connect to this listener, `sessions` of them. The address is what is told
     /// of it on standard error.
     pub fn new(
         alloc: Global,
         machine: R,
         errors: Stderr,
         address: String,
-        door: Door<R::Listener>,
+        listener: R::Listener,
         sessions: u32,
         manner: Manner,
     ) -> HostLink<R>
-        ensures door { result.door ≡ door }
+        ensures listener { result.listener ≡ listener }
         ensures manner { result.manner ≡ manner }
         ensures bound { result.left ≡ sessions }
         ensures lent { result.lent ≡ 0 }
@@ -101,7 +99,7 @@ impl<R: Network + Clock + Copy + Drop> HostLink<R> {
     {
         HostLink {
             machine,
-            door,
+            listener,
             address,
             alloc,
             errors,
@@ -113,18 +111,18 @@ impl<R: Network + Clock + Copy + Drop> HostLink<R> {
         }
     }
 
-    /// The connection of the next client at the door.
+    /// The connection of the next client of the listener.
     fn admit(&self) -> io::Result<(Option<Peer>, (HostSource<R>, HostSink))>
-        ensures met { IfOk result (λ given. MeetsAt R.Listener.meets self.now.door
+        ensures met { IfOk result (λ given. R.Listener.meets self.now.listener
             (Ok (reader_inner given.1.0.inner.reader, given.1.1.inner.writer.writer))) }
         ensures unread { IfOk result (λ given. reader_buffer given.1.0.inner.reader ≡ []) }
         ensures holds_nothing { IfOk result (λ given. given.1.1.inner.held.items ≡ []) }
         ensures watched { IfOk result (λ given. IfSome given.1.0.inner.watch
             (λ watch. (watch.idle_timeout ≡ self.now.manner.idle_timeout)
             × (watch.is_settled ≡ false))) }
-        ensures err { IfErr result (MeetsNobody R.Listener.meets self.now.door) }
+        ensures err { IfErr result (MeetsNobody R.Listener.meets self.now.listener) }
     {
-        let (reader, writer) = match self.door.meet() {
+        let (reader, writer) = match self.listener.meet() {
             Ok(ends) => ends,
             Err(error) => return Err(error),
         };
@@ -148,17 +146,17 @@ impl<R: Network + Clock + Copy + Drop> HostLink<R> {
         Watch::new(self.machine, self.errors, peer, self.manner.idle_timeout).ok()
     }
 
-    /// The connection of the next client at the door, waited for as long as the system wants
+    /// The connection of the next client of the listener, waited for as long as the system wants
     /// descriptors or memory for it. That is said once.
     fn wait_for_client(&self) -> io::Result<(Option<Peer>, (HostSource<R>, HostSink))>
-        ensures met { IfOk result (λ given. MeetsAt R.Listener.meets self.now.door
+        ensures met { IfOk result (λ given. R.Listener.meets self.now.listener
             (Ok (reader_inner given.1.0.inner.reader, given.1.1.inner.writer.writer))) }
         ensures unread { IfOk result (λ given. reader_buffer given.1.0.inner.reader ≡ []) }
         ensures holds_nothing { IfOk result (λ given. given.1.1.inner.held.items ≡ []) }
         ensures watched { IfOk result (λ given. IfSome given.1.0.inner.watch
             (λ watch. (watch.idle_timeout ≡ self.now.manner.idle_timeout)
             × (watch.is_settled ≡ false))) }
-        ensures err { IfErr result (MeetsNobody R.Listener.meets self.now.door) }
+        ensures err { IfErr result (MeetsNobody R.Listener.meets self.now.listener) }
     {
         let mut pause = FIRST_PAUSE;
         for turn in 0..u64::MAX {
@@ -190,10 +188,10 @@ impl<R: Network + Clock + Copy + Drop> HostLink<R> {
     }
 }
 
-/// Says on standard error where the clients of these links may connect, which have one door.
+/// Says on standard error where the clients of these links may connect, which have one listener.
 pub(crate) fn announce_links<R: Network + Clock + Copy + Drop>(links: &[HostLink<R>]) {
     if let Some(link) = links.first() {
-        announce(link.errors, link.address.as_str(), &link.door);
+        announce(link.errors, link.address.as_str(), &link.listener);
     }
 }
 
@@ -204,7 +202,7 @@ impl<R: Network + Clock + Copy + Drop> Link for HostLink<R> {
 
     ghost state = { λ link. untold_link link.left link.lent link.faults };
 
-    /// The next client at the link's door. It fails only where the system refuses one there. Where
+    /// The next client of the link's listener. It fails only where the system refuses one there. Where
     /// descriptors or memory are wanted for a client, the next one is waited for, up to `2 ^ 64` times.
     /// One that was met, but for whose connection memory was wanted, is turned away.
     fn next(&mut self) -> Result<Option<(Self::In, Self::Out)>, Failed>
@@ -215,9 +213,9 @@ impl<R: Network + Clock + Copy + Drop> Link for HostLink<R> {
             (untold_link self.new.left self.new.lent self.new.faults) result }
         ensures cause { HasCause self.old.faults self.new.faults result }
         ensures faults { Counts self.old.faults self.new.faults result }
-        ensures door { self.new.door ≡ self.old.door }
+        ensures listener { self.new.listener ≡ self.old.listener }
         ensures met { IfOk result (λ given. IfSome given
-            (λ c. MeetsAt R.Listener.meets self.old.door
+            (λ c. R.Listener.meets self.old.listener
             (Ok (reader_inner c.0.inner.reader, c.1.inner.writer.writer)))) }
         ensures unread { IfOk result (λ given. IfSome given
             (λ c. reader_buffer c.0.inner.reader ≡ [])) }
@@ -228,7 +226,7 @@ impl<R: Network + Clock + Copy + Drop> Link for HostLink<R> {
             × (watch.is_settled ≡ false)))) }
         ensures manner { self.new.manner ≡ self.old.manner }
         ensures refused { IsErr result →
-            (error : Error) × MeetsNobody R.Listener.meets self.old.door error }
+            (error : Error) × MeetsNobody R.Listener.meets self.old.listener error }
     {
         if self.left == 0 {
             return Ok(None);
@@ -254,7 +252,7 @@ impl<R: Network + Clock + Copy + Drop> Link for HostLink<R> {
         ensures bound { self.new.left ≡ self.old.left }
         ensures lent { self.new.lent + 1 ≡ self.old.lent }
         ensures faults { self.new.faults ≡ self.old.faults }
-        ensures door { self.new.door ≡ self.old.door }
+        ensures listener { self.new.listener ≡ self.old.listener }
         ensures manner { self.new.manner ≡ self.old.manner }
     {
         self.tell("gone");

@@ -152,7 +152,7 @@ impl Network for HostRuntime {
         match TcpListener::bind(self, address) {
             Ok(listener) => Ok(HostListener::Tcp(listener)),
             Err(error) if error.kind() == ErrorKind::InvalidInput => {
-                let message = "no address: HOST:PORT, as 127.0.0.1:10809, unix:PATH, or stdio";
+                let message = "no address: HOST:PORT, as 127.0.0.1:10809, or unix:PATH";
                 Err(io::Error::new(ErrorKind::InvalidInput, message))
             }
             Err(error) => Err(error),

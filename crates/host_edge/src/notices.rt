@@ -1,4 +1,3 @@
-use crate::door::Door;
 use crate::network::Listener;
 use std::alloc::Global;
 use std::io::{self, Stderr};
@@ -22,10 +21,7 @@ fn without_number(text: &str) -> &str {
 
 /// Says in one line on standard error where clients may connect from now on: the host and the port, or
 /// the address that was asked for where there are none.
-pub fn announce<L: Listener>(errors: Stderr, asked: &str, door: &Door<L>) {
-    let Door::Listening(listener) = door else {
-        return;
-    };
+pub fn announce<L: Listener>(errors: Stderr, asked: &str, listener: &L) {
     let _ = match listener.address() {
         Ok(address) => eprintln!(errors; "reencd: listening on {address}"),
         Err(_) => eprintln!(errors; "reencd: listening on {asked}"),

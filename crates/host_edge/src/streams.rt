@@ -1,6 +1,6 @@
 use io_edge::WritePair;
 use std::fmt::{self, Display, Formatter};
-use std::io::{self, BufReader, IoSlice, Read, Stdin, Stdout, Write};
+use std::io::{self, BufReader, IoSlice, Read, Write};
 use std::net::{Shutdown, SocketAddr, TcpStream};
 use std::os::fd::{AsRawFd, RawFd};
 use std::os::unix::net::UnixStream;
@@ -38,7 +38,6 @@ impl Display for Peer {
 /// What a connection is read from.
 #[derive(Drop)]
 pub enum HostReader {
-    Standard(Stdin),
     Socket(TcpStream),
     Local(UnixStream),
 }
@@ -47,19 +46,16 @@ impl HostReader {
     /// How the client is told of, where that is known.
     pub fn peer(&self) -> Option<Peer> {
         match self {
-            HostReader::Standard(_) => None,
             HostReader::Socket(stream) => Some(Peer::Address(stream.peer_addr().ok()?)),
             HostReader::Local(stream) => Some(Peer::Local(stream.as_raw_fd())),
         }
     }
 }
 
-/// Both ends of a socket are one to the system, so the times are set for its writes too. The standard
-/// streams wait without an end.
+/// Both ends of a socket are one to the system, so the times are set for its writes too.
 impl Patient for HostReader {
     fn set_patience(&self, reads: Option<Duration>, writes: Option<Duration>) {
         let _ = match self {
-            HostReader::Standard(_) => Ok(()),
             HostReader::Socket(stream) => stream
                 .set_read_timeout(reads)
                 .and(stream.set_write_timeout(writes)),
@@ -79,7 +75,6 @@ impl Patient for BufReader<HostReader> {
 impl Read for HostReader {
     fn read(&mut self, buf: &mut [u8]) -> io::Result<usize> {
         match self {
-            HostReader::Standard(input) => input.read(buf),
             HostReader::Socket(stream) => stream.read(buf),
             HostReader::Local(stream) => stream.read(buf),
         }
@@ -89,16 +84,13 @@ impl Read for HostReader {
 /// What a connection is written to.
 #[derive(Drop)]
 pub enum HostWriter {
-    Standard(Stdout),
     Socket(TcpStream),
     Local(UnixStream),
 }
 
-/// The standard streams are left as they are.
 impl HangUp for HostWriter {
     fn hang_up(&self) {
         let _ = match self {
-            HostWriter::Standard(_) => Ok(()),
             HostWriter::Socket(stream) => stream.shutdown(Shutdown::Both),
             HostWriter::Local(stream) => stream.shutdown(Shutdown::Both),
         };
@@ -112,8 +104,6 @@ impl WritePair for HostWriter {
 
     fn write_pair(&mut self, first: &[u8], second: &[u8]) -> io::Result<usize> {
         match self {
-            HostWriter::Standard(output) if first.is_empty() => output.write(second),
-            HostWriter::Standard(output) => output.write(first),
             HostWriter::Socket(stream) => {
                 TcpStream::write_vectored(stream, &[IoSlice::new(first), IoSlice::new(second)])
             }
@@ -125,7 +115,6 @@ impl WritePair for HostWriter {
 
     fn flush(&mut self) -> io::Result<()> {
         match self {
-            HostWriter::Standard(output) => output.flush(),
             HostWriter::Socket(stream) => stream.flush(),
             HostWriter::Local(stream) => stream.flush(),
         }

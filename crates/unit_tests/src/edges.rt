@@ -6,7 +6,7 @@ use crate::same::same;
 use base_terms::Failed;
 use bays::{Link, Manner};
 use file_disk::{FileDisk, PositionedFile};
-use host_edge::{Door, HostLink, HostReader, HostWriter, Listener, Network, accept};
+use host_edge::{HostLink, HostReader, HostWriter, Listener, Network, accept};
 use sector_disk::Disk;
 use std::alloc::Global;
 use std::cell::Cell;
@@ -153,11 +153,11 @@ fn fails(link: &mut HostLink<Silent>) -> bool {
 /// of whom it met.
 fn is_unheard<R: Abort>(rt: &R, alloc: Global, errors: Stderr, gone: u32) -> Result<(), Fail> {
     let left = Rc::new(alloc, Cell::new(gone))?;
-    let door = Door::Listening(Deaf {
+    let listener = Deaf {
         gone: left.clone()?,
-    });
+    };
     let address = String::from_str(alloc, "somewhere")?;
-    let mut link = HostLink::new(alloc, Silent, errors, address, door, 2, Manner::QUIET);
+    let mut link = HostLink::new(alloc, Silent, errors, address, listener, 2, Manner::QUIET);
     same(rt, (fails(&mut link), fails(&mut link)), (true, true));
     same(rt, (link.faults(), left.get()), (2, 0));
     drop(link);

@@ -1,4 +1,3 @@
-use Rattle.std.proofs.Common.{arith}
 use Rattle.host_edge.specs.Untold.{untold_link}
 use Rattle.host_edge.proofs.ShareLemmas.{bounded_where}
 use Rattle.host_edge.proofs.host_bay.HostBay.open_links.Goals as goal
@@ -6,5 +5,5 @@ use Rattle.host_edge.proofs.host_bay.HostBay.open_links.Goals as goal
 pub returns-in-Ok-clause-bound : goal.returns-in-Ok-clause-bound
 returns-in-Ok-clause-bound g c =
     bounded_where (λ link. untold_link link.left link.lent link.faults) (λ links. links.items)
-    c.args.workers c.args.sessions c.args.sessions c.share_door-in-Ok.result (omega arith)
-    c.share_door-in-Ok.ensures.shared
+    c.args.workers c.args.sessions c.share_listener.result
+    c.share_listener.ensures.shared
