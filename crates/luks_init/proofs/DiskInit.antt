@@ -9,4 +9,5 @@ pub mod LawLemmas
 pub mod MakeLemmas
 pub mod StartLemmas
 pub mod ThroughoutLemmas
+pub mod ShadeLemmas
 pub mod SlipLemmas

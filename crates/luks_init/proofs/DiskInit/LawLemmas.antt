@@ -1,14 +1,17 @@
 -- The tables of a new keyslot's writing, behind the calls of an opening.
-use Rattle.std.proofs.Common.{◌≡◌, ◌∙◌, inl, inr, ℕ, ◌%◌, ◌<◌, ◌≤◌, List, [], length, Option, Some}
+use Rattle.std.proofs.Common.{◌≡◌, ◌∙◌, inl, inr, ℕ, ◌*◌, ◌%◌, ◌<◌, ◌≤◌, List, [], length, Option, Some}
+use Rattle.std.proofs.Common.{replicate}
 use Rattle.std.proofs.Common.{Result}
 use Rattle.std.proofs.Common.{refl, sym, ap, subst, arith}
-use Rattle.base_terms.specs.Blocks.{joined}
+use Rattle.base_terms.specs.Blocks.{joined, lengths}
 use Rattle.base_terms.specs.declared.failed.Failed.{Failed}
 use Rattle.crash_laws.specs.HeaderAreas.Commits.{Follows, HasPast}
 use Rattle.crash_laws.specs.HeaderAreas.Headers.{IsGenuine}
 use Rattle.base_terms.specs.declared.disk_sizes.Sizes.{Sizes}
 use Rattle.luks_init.proofs.DiskInit.BegunLemmas.{free}
 use Rattle.luks_init.proofs.DiskInit.GoodLemmas.{good_stored}
+use Rattle.luks_init.proofs.DiskInit.ShadeLemmas.{IsShade, LiesOn, shade, shade_calls, sure_cells}
+use Rattle.luks_init.proofs.DiskInit.ShadeLemmas.{sure_content, sure_shade, sure_table}
 use Rattle.luks_init.proofs.DiskInit.ImageLemmas.{begins, has_begun, next_meta, stands_on}
 use Rattle.luks_init.specs.DiskInit.Laws.{SlotsKeepContents}
 use Rattle.luks_init.specs.DiskInit.Makings.{IsMade, draw_of}
@@ -27,18 +30,19 @@ use Rattle.luks_slots.specs.Gaps.{IsFree}
 use Rattle.luks_slots.specs.NewSlots.{area_len}
 use Rattle.luks_store.proofs.CopyLemmas.{Spelt}
 use Rattle.luks_store.specs.Commits.{IsNextStored}
-use Rattle.luks_store.specs.Devices.{front_of}
+use Rattle.luks_store.specs.Devices.{IsCertain, front_of}
 use Rattle.luks_store.specs.Promises.{AreasBeginBehind}
 use Rattle.luks_store.specs.declared.loaded.Stored.{Stored}
 use Rattle.reenc_meta.specs.Placements.{all_atoms}
 use Rattle.reenc_meta.specs.declared.placement.Placement.{Placement}
 use Rattle.reenc_recovery.specs.Mended.{DiskOpeningsMend, IsMended}
 use Rattle.reenc_recovery.specs.Tables.{IsFoundOn, ShowsSizes}
-use Rattle.sector_disk.specs.Cells.{Cell, content}
+use Rattle.reenc_recovery.proofs.RepairTableLemmas.{certain_now}
+use Rattle.sector_disk.specs.Cells.{Cell, content, currents}
 use Rattle.sector_disk.specs.Devices.{Device, succeeded}
 use Rattle.sector_disk.specs.Geometry.{IsAtom, IsDisk}
 use Rattle.sector_disk.specs.Steps.{Told}
-use Rattle.luks_store.specs.SlotCommits.Calls.{FitsSlot, WritesSlot}
+use Rattle.luks_store.specs.SlotCommits.Calls.{FitsSlot, WritesSlot, slot_calls}
 use Rattle.luks_store.specs.SlotCommits.Images.{IsEither, IsSpared, handed_with, next_header}
 use Rattle.luks_store.specs.SlotCommits.Promises.{Continues, EndsKept, IsNextSlot, KeepsHeaders, ShowsCertain}
 use Rattle.luks_store.specs.declared.slot_commit.writing.SlotCommit.{SlotCommit}
@@ -189,6 +193,83 @@ module _ (laws : Laws) (sizes : Sizes) (header next : Stored) (w : Wish) (pass s
         area = kept.area;
       }
 
+-- ---- a disk that tells its bytes
+module _ (laws : Laws) (sizes : Sizes) (header next : Stored) (w : Wish) (pass seed : List ℕ)
+    (slot : SlotCommit) (first : List ℕ) (between : Device)
+    (disk : IsDisk sizes.atom (all_atoms sizes)) (wish : IsWish w sizes.atom)
+    (shows : ShowsSizes sizes between) (mended : IsMended sizes header first between)
+    (p : Placement) (repair : Option Repair) (was : Device)
+    (known : IsFoundOn sizes header p repair was) (made : IsMade header w pass seed slot)
+    (next_is : IsNextStored slot.commit next) (fits : FitsSlot slot between)
+    (long : length mended.now ≡ between.atoms * between.size) where
+  abbrev start : Told
+  start = sure_table between mended.now
+
+  begun : IsShade between start
+  begun = sure_shade between mended.now mended.values long
+
+  told_is : (told : Told) → Some start ≡ Some told → start ≡ told
+  told_is told is = cc
+
+  shows_too : ShowsSizes sizes (shade between start)
+  shows_too = record {
+    atom = shows.atom;
+    known = shows.known;
+    header = shows.header;
+    agrees = λ told is. subst (λ (t : Told). between.values ≡ Some (content t.now))
+        (told_is told is) begun.agrees;
+    even = λ told is. subst (λ (t : Told). lengths (currents t.now)
+        ≡ replicate between.atoms between.size) (told_is told is) begun.even;
+    whole = shows.whole;
+  }
+
+  mended_too : IsMended sizes header first (shade between start)
+  mended_too = record {
+    now = mended.now;
+    values = mended.values;
+    stands = mended.stands;
+    good = mended.good;
+    means = mended.means;
+    certain = λ told is. subst (λ (t : Told). IsCertain sizes mended.now t.now) (told_is told is)
+        (subst (λ (bytes : List ℕ). IsCertain sizes bytes start.now)
+        (sure_content between mended.now long)
+        (certain_now sizes (shade between start) start (sure_cells between mended.now) shows_too
+        refl refl));
+  }
+
+  fits_too : FitsSlot slot (shade between start)
+  fits_too = record {
+    begun = fits.begun;
+    sizes = record {
+      atom = fits.sizes.atom;
+      header = fits.sizes.header;
+      main = fits.sizes.main;
+      all = fits.sizes.all;
+      alone = fits.sizes.alone;
+    };
+    area = fits.area;
+  }
+
+  is_atom : IsAtom between.size
+  is_atom = subst (λ (n : ℕ). IsAtom n) shows.atom shows.known
+
+  lies : LiesOn slot between.size between.atoms
+  lies =
+      let copies = made.is.fit between fits.sizes is_atom in
+      record { area = fits.area; first = copies.first; second = copies.second }
+
+  pub held_on : (new : Device) → WritesSlot slot between new succeeded → (bytes : List ℕ)
+      → new.values ≡ Some bytes → HasBegun sizes pass (draw_of w seed).key first bytes
+  held_on new writes bytes values =
+      let all = shade_calls slot slot_calls between new start (some_atom between.size is_atom) lies
+      begun writes in
+      let same : content all.next.now ≡ bytes =
+      (let e : Some (content all.next.now) ≡ Some bytes = sym all.is.agrees ∙ values in cc) in
+      subst (λ (b : List ℕ). HasBegun sizes pass (draw_of w seed).key first b) same
+      (ended laws sizes header next w pass seed slot first (shade between start) disk wish shows_too
+      mended_too p repair was known made next_is fits_too (shade new all.next) all.calls_are
+      all.next refl)
+
 -- ---- all of it
 pub slots_keep : Laws → DiskOpeningsMend → SlotsKeepContents
 slots_keep laws mend sizes key w pass seed old header repair slot between new result first disk wish
@@ -208,5 +289,9 @@ slots_keep laws mend sizes key w pass seed old header repair slot between new re
       kept = λ same. keeps_next laws sizes header loaded.0 w pass seed slot first between disk wish
           shows_between mended checked.placement repair old checked.found ready.made
           loaded.1 fits new
+          (subst (λ (r : Result (Unit {0}) Failed). WritesSlot slot between new r) same writes);
+      held = λ same whole. held_on laws sizes header loaded.0 w pass seed slot first between disk wish
+          shows_between mended checked.placement repair old checked.found ready.made
+          loaded.1 fits (whole mended.now mended.values) new
           (subst (λ (r : Result (Unit {0}) Failed). WritesSlot slot between new r) same writes);
     }

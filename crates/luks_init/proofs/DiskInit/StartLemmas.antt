@@ -335,10 +335,11 @@ module _ (sizes : Sizes) (key : Option (List ℕ)) (w : Wish) (pass seed : List 
         agrees even
 
     pub begun_of : DiskOpeningsKeepContents → SlotsKeepContents → IsDisk sizes.atom (all_atoms sizes)
-        → IsWish w sizes.atom → ShowsSizes sizes between → TellsSized between → (new : Device)
-        (result : Result (Unit {0}) Failed) → WritesSlot slot between new result
-        → IsBegunOf sizes key w pass seed old new result
-    begun_of keep law disk wish shows_later sized new result writes =
+        → IsWish w sizes.atom → ShowsSizes sizes between
+        → ((all : List ℕ) → between.values ≡ Some all → length all ≡ between.atoms * between.size)
+        → TellsSized between → (new : Device) (result : Result (Unit {0}) Failed)
+        → WritesSlot slot between new result → IsBegunOf sizes key w pass seed old new result
+    begun_of keep law disk wish shows_later whole sized new result writes =
         let run = runs between succeeded mended in
         record {
           header = header;
@@ -359,4 +360,7 @@ module _ (sizes : Sizes) (key : Option (List ℕ)) (w : Wish) (pass seed : List 
           kept = λ all is.
               (law sizes key w pass seed old header repair slot between new result all disk wish
               shows ready run shows_later slot_fits writes is).kept;
+          held = λ all is done.
+              (law sizes key w pass seed old header repair slot between new result all disk wish
+              shows ready run shows_later slot_fits writes is).held done whole;
         }

@@ -61,7 +61,7 @@ pub record IsRefusedAs (sizes : Sizes) (key : Option (List ℕ)) (old new : Devi
 -- failed. Each image of each table that the disk told, from that of the first sync on, stands for
 -- what the disk's bytes stood for before, under the passphrase; and where all was done, what the
 -- disk tells now holds, for certain, the next header in both copies, by which a conversion is under
--- way.
+-- way; and so do the bytes that it tells, whether it tells tables or not.
 pub record IsBegunOf (sizes : Sizes) (key : Option (List ℕ)) (w : Wish) (pass seed : List ℕ)
     (old new : Device) (result : Result (Unit {0}) Failed) : Type 0 where
   pub header : Stored
@@ -79,6 +79,8 @@ pub record IsBegunOf (sizes : Sizes) (key : Option (List ℕ)) (w : Wish) (pass 
       → HasBegun sizes pass (draw_of w seed).key first (content now.now)
   pub kept : (first : List ℕ) → old.values ≡ Some first → result ≡ succeeded
       → (now : Told) → new.told ≡ Some now → KeepsNext sizes slot ready.made.begun.meta now.now
+  pub held : (first : List ℕ) → old.values ≡ Some first → result ≡ succeeded → (now : List ℕ)
+      → new.values ≡ Some now → HasBegun sizes pass (draw_of w seed).key first now
 
 -- No volume is opened: the first sync failed.
 abbrev pub IsUnsynced : Device → Device → OpenCause → Type 0

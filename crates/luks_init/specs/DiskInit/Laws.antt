@@ -1,5 +1,5 @@
 -- What follows for the tables of a new keyslot's writing.
-use Rattle.std.specs.Prelude.{ℕ, ◌≡◌, List, Option, Some, Result}
+use Rattle.std.specs.Prelude.{ℕ, ◌≡◌, ◌*◌, List, length, Option, Some, Result}
 use Rattle.base_terms.specs.declared.failed.Failed.{Failed}
 use Rattle.base_terms.specs.declared.disk_sizes.Sizes.{Sizes}
 use Rattle.luks_init.specs.DiskInit.Calls.{IsReady}
@@ -21,7 +21,8 @@ use Rattle.luks_store.specs.SlotCommits.Calls.{FitsSlot, WritesSlot}
 use Rattle.luks_store.specs.declared.slot_commit.writing.SlotCommit.{SlotCommit}
 
 -- The images of all tables since stand for what these bytes stand for, and where all was done what
--- the disk tells holds the next header for certain, by which a conversion is under way.
+-- the disk tells holds the next header for certain, by which a conversion is under way. That is under
+-- way in the bytes of a disk, too, that tells all of them, whether it tells tables or not.
 pub record KeepsOn (sizes : Sizes) (w : Wish) (pass seed : List ℕ) (header : Stored)
     (slot : SlotCommit) (meta : Parts) (first : List ℕ) (old new : Device)
     (result : Result (Unit {0}) Failed) : Type 0 where
@@ -30,6 +31,10 @@ pub record KeepsOn (sizes : Sizes) (w : Wish) (pass seed : List ℕ) (header : S
       → HasBegun sizes pass (draw_of w seed).key first (content now.now)
   pub kept : result ≡ succeeded → (now : Told) → new.told ≡ Some now
       → KeepsNext sizes slot meta now.now
+  pub held : result ≡ succeeded
+      → ((all : List ℕ) → old.values ≡ Some all → length all ≡ old.atoms * old.size)
+      → (now : List ℕ) → new.values ≡ Some now
+      → HasBegun sizes pass (draw_of w seed).key first now
 
 -- So it is with the calls that write what was made, behind those of an opening that were all done.
 abbrev pub SlotsKeepContents : Type 0

@@ -79,7 +79,7 @@ returns-in-Ok-write_slot-clause-begun g c =
     (shows_between (sizes_alone old) c.args.keys.now.new c.args.wish.now c.args.pass.now c.args.seed.now old
     read r.header r.repair r.slot first ready (has_alone old) shows
     between mended size atoms told.agrees told.even told.whole)
-    told.sized (g.D.Disk.device c.write_slot.new.disk) succeeded c.in-Ok-write_slot.ensures
+    told.whole told.sized (g.D.Disk.device c.write_slot.new.disk) succeeded c.in-Ok-write_slot.ensures
 
 pub returns-clause-unbegun : goal.returns-clause-unbegun
 returns-clause-unbegun g c =
@@ -104,4 +104,4 @@ returns-clause-unbegun g c =
     (shows_between (sizes_alone old) c.args.keys.now.new c.args.wish.now c.args.pass.now c.args.seed.now old
     read r.header r.repair r.slot first ready (has_alone old) shows
     between mended size atoms told.agrees told.even told.whole)
-    told.sized (g.D.Disk.device c.write_slot.new.disk) failed_call c.in-Err-write_slot.ensures
+    told.whole told.sized (g.D.Disk.device c.write_slot.new.disk) failed_call c.in-Err-write_slot.ensures
