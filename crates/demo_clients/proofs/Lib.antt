@@ -1,0 +1,13 @@
+mod AskingLemmas
+mod ClientLemmas
+mod DemonstrationLemmas
+mod FirstReplyLemmas
+mod HeldLemmas
+mod HistoryLemmas
+mod InputLemmas
+mod OwnerLemmas
+mod ReadBackLemmas
+mod ShareLemmas
+mod StepLemmas
+mod TextLemmas
+mod ToldLemmas

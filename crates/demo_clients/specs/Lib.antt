@@ -1,0 +1,11 @@
+pub mod Asking
+pub mod ClientLinks
+pub mod Connections
+pub mod Contents
+pub mod DemoBays
+pub mod Demonstrations
+pub mod Histories
+pub mod Inputs
+pub mod Operations
+pub mod Replies
+pub mod Texts
