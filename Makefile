@@ -5,7 +5,7 @@ NAME =
 SAMPLE = 5
 
 help:
-	@echo "make run             the program, unproved, in three to six silent minutes"
+	@echo "make run             the demonstration, unproved, in three to six silent minutes"
 	@echo "make build           prove the program and leave it at crates/reencd/out/reencd (hours)"
 	@echo "make test            every proof, wrong body, test and program, and the scripts (hours)"
 	@echo "make check NAME=X    prove the crate X, and those below it, as the gate does"
@@ -19,11 +19,11 @@ help:
 
 run:
 	cd crates/reencd && \
-	rt try -- serve data/disk.img --plain --atom 512 --listen stdio --sessions 1 </dev/null
+	rt try -- demo --seed 5 --blocks 64 --workers 4
 
 build:
 	cd crates/reencd && \
-	rt run -- serve data/disk.img --plain --atom 512 --listen stdio --sessions 1 </dev/null
+	rt run -- demo --seed 5 --blocks 64 --workers 4
 
 test:
 	.ci/run

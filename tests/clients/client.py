@@ -1,8 +1,10 @@
 """A small client of the NBD protocol (fixed newstyle, simple replies), for tests that say by the byte
 what is sent."""
 
+import os
 import socket
 import struct
+import time
 
 REQUEST = 0x25609513
 READ, WRITE, DISCONNECT, FLUSH, WRITE_ZEROES = 0, 1, 2, 3, 6
@@ -22,6 +24,27 @@ def connected(place, timeout=20):
     made.settimeout(timeout)
     made.connect(place)
     return made
+
+
+def is_running(process):
+    try:
+        os.kill(process, 0)
+    except ProcessLookupError:
+        return False
+    return True
+
+
+def visit(path, server):
+    """Comes to the socket of this path as soon as the process of that number listens there, hears its
+    greeting and goes. Where that process ends before, nobody comes."""
+    while is_running(server):
+        try:
+            with connected(path) as visitor:
+                if visitor.recv(18):
+                    return
+        except (FileNotFoundError, ConnectionRefusedError, ConnectionResetError):
+            pass
+        time.sleep(0.005)
 
 
 class Client:

@@ -104,6 +104,13 @@ served() {
     expect "line of the server" "$(cat "$room/stdout")" "served $1 sessions"
 }
 
+# Waits for the end of the program of this number, which may serve one session at the socket `sock`: a client
+# comes there, hears the greeting and goes. The status is the program's: PROCESS.
+end_of() {
+    PYTHONPATH=$here python3 -c "import client; client.visit('sock', $1)" || fail "no client came"
+    wait "$1"
+}
+
 # Ends the server by the signal.
 stop() {
     kill -"$1" "$server"

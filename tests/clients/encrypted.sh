@@ -13,7 +13,7 @@ printf 'a passphrase' >cut
 # was.
 refuses() {
     before=$(sha256sum <"$1")
-    "$reencd" serve "$1" --key-file "$2" --listen stdio >out 2>err </dev/null
+    "$reencd" serve "$1" --key-file "$2" --listen unix:sock >out 2>err </dev/null
     expect "serve $1 --key-file $2" "$? $(cat out) $(cat err)" "$3"
     [ "$(sha256sum <"$1")" = "$before" ] || fail "$1 was written"
 }

@@ -29,7 +29,7 @@ has 12388 4096 12288
 
 for length in 0 511; do
     truncate -s $length disk.img
-    "$reencd" serve disk.img --plain --atom 512 --listen stdio >out 2>err </dev/null
+    "$reencd" serve disk.img --plain --atom 512 --listen unix:sock >out 2>err </dev/null
     expect "a disk of $length bytes" "$? $(cat out)" "8 fault 8 NoFit"
 done
 
@@ -42,10 +42,11 @@ keys() {
         --uuid 12345678-1234-4234-8234-123456789abc >out 2>err </dev/null
     expect "a key file of $1 bytes" "$? $(cat out)" "$2 $3"
     [ "$2" = 0 ] || return 0
-    "$reencd" serve volume.img --key-file key --listen stdio >/dev/null 2>err </dev/null
+    "$reencd" serve volume.img --key-file key --listen unix:sock --sessions 1 >/dev/null 2>err </dev/null &
+    end_of $!
     expect "it opens" "$?" 0
     head -c $(($1 - 1)) key >shorter
-    "$reencd" serve volume.img --key-file shorter --listen stdio >out 2>err </dev/null
+    "$reencd" serve volume.img --key-file shorter --listen unix:sock >out 2>err </dev/null
     [ $? != 0 ] || fail "a shorter one opens it"
 }
 made="formatted 12345678-1234-4234-8234-123456789abc"

@@ -149,13 +149,13 @@ if command -v cryptsetup >/dev/null; then
     for case in "other new" "none old"; do
         read -r file side <<<"$case"
         expect "serve under a passphrase without the $side key" \
-            "$("$reencd" serve volume.img --key-file "$file" --listen stdio 2>err </dev/null; echo $?)" "fault 5 NoKey
+            "$("$reencd" serve volume.img --key-file "$file" --listen unix:sock 2>err </dev/null; echo $?)" "fault 5 NoKey
 5"
         grep -q "^reencd: the $side key: the passphrase opens no keyslot" err || fail "the reason is $(cat err)"
         cmp volume.img begun.img || fail "the disk was written"
     done
     expect "serve under no passphrase" \
-        "$("$reencd" serve volume.img --key-file /dev/null --listen stdio 2>&1 </dev/null; echo $?)" "fault 8 NoFit
+        "$("$reencd" serve volume.img --key-file /dev/null --listen unix:sock 2>&1 </dev/null; echo $?)" "fault 8 NoFit
 reencd: the key file has no byte, and a passphrase has 1 to 512
 8"
     cmp volume.img begun.img || fail "the disk was written"

@@ -1,4 +1,4 @@
-# libnbd in Python: each request, what is out of range, and a session over standard input and output.
+# libnbd in Python: each request, what is out of range, and a session over a socket that has a file.
 . "$(dirname "$0")/common.sh"
 needs_libnbd
 truncate -s 64M "$room/disk.img"
@@ -110,18 +110,18 @@ print("an export by its name alone")
 PYTHON
 served 3
 
-REENCD=$reencd DISK=$room/disk.img "$python" -m nbd -c - <<'PYTHON' || fail "libnbd over standard input and output"
+serve_at "$room/sock" "$room/disk.img" --plain --atom 4096 --sessions 1
+SOCKET=$room/sock "$python" -m nbd -c - <<'PYTHON' || fail "libnbd over a socket that has a file"
 import os
 
-words = ["serve", os.environ["DISK"], *"--plain --atom 4096 --listen stdio --sessions 1".split()]
-h.connect_command([os.environ["REENCD"], *words])
+h.connect_unix(os.environ["SOCKET"])
 assert h.get_size() == 64 << 20
 assert h.get_block_size(nbd.SIZE_MINIMUM) == 4096
 assert h.pread(4096, 0) == bytes(range(256)) * 16
 h.pwrite(bytes(4096), 0)
 h.flush()
 assert h.pread(4096, 0) == bytes(4096)
-# the server's own line follows the session, which a client that waits for the end takes for a reply
-h.aio_disconnect()
-print("write, read, flush over standard input and output")
+h.shutdown()
+print("write, read, flush over a socket that has a file")
 PYTHON
+served 1

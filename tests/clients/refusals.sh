@@ -1,6 +1,7 @@
 # What the program says where it can't do what it is asked: one line on standard output with the status
 # and its name, and one on standard error with the reason.
 . "$(dirname "$0")/common.sh"
+needs python3
 cd "$room" || exit 1
 
 # The program with these words ends with this status, line and reason.
@@ -44,25 +45,27 @@ mkdir folder
     helps "--listen <ADDRESS>" serve --help
     explains "error: unrecognized subcommand 'open'" open
     explains "error: unexpected argument '--size' found" status disk.img --size 1
-    explains "error: the argument '--plain' cannot be used multiple times" $(plain disk.img stdio) --plain
+    explains "error: the argument '--plain' cannot be used multiple times" $(plain disk.img unix:sock) --plain
     explains "error: --atom takes 512 or 4096" status disk.img --atom 1024
-    explains "error: --workers takes a number from 1 to 16" $(plain disk.img stdio) --workers 17
-    explains "error: this command is not built yet" demo --seed 1 --blocks 1 --workers 1
+    explains "error: --workers takes a number from 1 to 16" $(plain disk.img unix:sock) --workers 17
+    explains "error: --blocks takes a number from 1 to 16384" demo --seed 1 --blocks 16385 --workers 1
+    helps "Convert a volume in memory while clients use it" demo --help
     explains "error: resume takes no --header yet" resume disk.img --key-file key --header other.img
     explains "--key-file <FILE>" resume disk.img
     helps "Convert a volume to the end of its conversion" resume --help
     refuses 2 "fault 2 Device" "reencd: missing.img: No such file or directory" resume missing.img --key-file key
     refuses 2 "fault 2 Device" "reencd: missing: No such file or directory" resume disk.img --key-file missing
     refuses 3 "fault 3 NoHeader" "reencd: header: primary: Magic; secondary: Magic" resume disk.img --key-file /dev/null
-    refuses 2 "fault 2 Device" "reencd: missing.img: No such file or directory" $(plain missing.img stdio)
-    refuses 2 "fault 2 Device" "reencd: folder: Is a directory" $(plain folder stdio)
+    refuses 2 "fault 2 Device" "reencd: missing.img: No such file or directory" $(plain missing.img unix:sock)
+    refuses 2 "fault 2 Device" "reencd: folder: Is a directory" $(plain folder unix:sock)
     refuses 8 "fault 8 NoFit" "reencd: small.img: the last 511 bytes aren't used: no whole atom of 512 bytes
-reencd: the disk has no room for a block" $(plain small.img stdio)
-    refuses 2 "fault 2 Device" "reencd: nowhere: no address: HOST:PORT, as 127.0.0.1:10809, unix:PATH, or stdio" $(plain disk.img nowhere)
-    refuses 2 "fault 2 Device" "reencd: 127.0.0.1:65536: no address: HOST:PORT, as 127.0.0.1:10809, unix:PATH, or stdio" $(plain disk.img 127.0.0.1:65536)
+reencd: the disk has no room for a block" $(plain small.img unix:sock)
+    for address in nowhere stdio 127.0.0.1:65536; do
+        refuses 2 "fault 2 Device" "reencd: $address: no address: HOST:PORT, as 127.0.0.1:10809, or unix:PATH" $(plain disk.img $address)
+    done
     refuses 2 "fault 2 Device" "reencd: 192.0.2.1:10809: Cannot assign requested address" $(plain disk.img 192.0.2.1:10809)
     serve disk.img 512 1
-    refuses 2 "fault 2 Device" "reencd: disk.img: locked by another process" $(plain disk.img stdio)
+    refuses 2 "fault 2 Device" "reencd: disk.img: locked by another process" $(plain disk.img unix:sock)
     cp disk.img other.img
     refuses 2 "fault 2 Device" "reencd: 127.0.0.1:$port: Address already in use" $(plain other.img "127.0.0.1:$port")
 }
@@ -71,8 +74,10 @@ expect "a word that isn't UTF-8" "$? $(cat out) $(cat err)" "1 fault 1 Usage ree
 if [ "$(id -u)" != 0 ]; then
     chmod 0 other.img
     # shellcheck disable=SC2046
-    refuses 2 "fault 2 Device" "reencd: other.img: Permission denied" $(plain other.img stdio)
+    refuses 2 "fault 2 Device" "reencd: other.img: Permission denied" $(plain other.img unix:sock)
 fi
 stop TERM
-"$reencd" serve disk.img --plain --atom 512 --listen stdio --sessions 1 </dev/null >/dev/full 2>err
-expect "output that is full" "$? $(cat err)" "11 reencd: failed calls of standard output: 1"
+"$reencd" serve disk.img --plain --atom 512 --listen unix:sock --sessions 1 </dev/null >/dev/full 2>err &
+end_of $!
+expect "output that is full" "$? $(cat err)" "11 reencd: listening on unix:sock
+reencd: failed calls of standard output: 1"

@@ -13,18 +13,14 @@ at_end() {
 }
 trap at_end EXIT
 
-# What the program printed, without the greeting of a client on the standard streams.
-printed() {
-    tr -d '\0\3' <out | sed 's/^NBDMAGICIHAVEOPT//'
-}
-
-# The program with these words ends with this status and line, and says this among others: STATUS LINE
-# TEXT WORD...
+# The program with these words, which may serve one session, ends with this status and line, and says this
+# among others: STATUS LINE TEXT WORD...
 says() {
     local status=$1 line=$2 text=$3
     shift 3
-    "$reencd" "$@" >out 2>err </dev/null
-    expect "$*" "$? $(printed)" "$status $line"
+    "$reencd" "$@" >out 2>err </dev/null &
+    end_of $!
+    expect "$*" "$? $(cat out)" "$status $line"
     grep -qF -- "$text" err || fail "$* doesn't say '$text': $(cat err)"
 }
 
@@ -55,10 +51,11 @@ without() {
     local closed=$1
     shift
     case $closed in
-    0) "$reencd" "$@" >out 2>err <&- ;;
-    1) "$reencd" "$@" 2>err </dev/null >&- ;;
-    2) "$reencd" "$@" >out </dev/null 2>&- ;;
+    0) "$reencd" "$@" >out 2>err <&- & ;;
+    1) "$reencd" "$@" 2>err </dev/null >&- & ;;
+    2) "$reencd" "$@" >out </dev/null 2>&- & ;;
     esac
+    end_of $!
 }
 for closed in 0 1 2; do
     wanted=0
@@ -71,7 +68,7 @@ for closed in 0 1 2; do
     without $closed init copy.img --key-file key --iterations 1000
     expect "init without $closed" "$? $(stat -c %s copy.img)" "$wanted $size"
     "$reencd" status copy.img | grep -q 'state: reencrypt' || fail "init without $closed began nothing"
-    for words in "status volume.img" "serve volume.img --key-file key --listen stdio"; do
+    for words in "status volume.img" "serve volume.img --key-file key --listen unix:sock --sessions 1"; do
         cp volume.img copy.img
         # shellcheck disable=SC2086
         without $closed ${words/volume/copy}
@@ -105,7 +102,7 @@ truncate -s $((size + 511)) frayed.img
 # (a disk that was lengthened under a conversion)
 cp begun.img grown.img
 truncate -s $((size + 1536)) grown.img
-for words in "resume grown.img" "serve grown.img --listen stdio" "serve grown.img --listen stdio --no-worker"; do
+for words in "resume grown.img" "serve grown.img --listen unix:sock" "serve grown.img --listen unix:sock --no-worker"; do
     # shellcheck disable=SC2086
     keeps grown.img 8 "fault 8 NoFit" "tail: the disk has 1536 bytes behind its last whole atom, which a conversion wouldn't reach: give it the size that it had when the conversion was begun, or whole atoms by a loop device (\`losetup --sizelimit\`)" \
         $words --key-file key
@@ -116,11 +113,11 @@ cp tailed.img begun_by_512.img
 "$reencd" init begun_by_512.img --key-file key --iterations 1000 --atom 512 >/dev/null 2>&1 || fail "init by 512"
 # (by atoms of 4096 bytes the volume that is being converted passes the last whole one)
 keeps begun_by_512.img 4 "fault 4 Header" "another --atom" resume begun_by_512.img --key-file key
-keeps begun_by_512.img 4 "fault 4 Header" "another --atom" serve begun_by_512.img --key-file key --listen stdio
-keeps tailed.img 0 "served 1 sessions" 1536 serve tailed.img --key-file key --listen stdio
+keeps begun_by_512.img 4 "fault 4 Header" "another --atom" serve begun_by_512.img --key-file key --listen unix:sock
+keeps tailed.img 0 "served 1 sessions" 1536 serve tailed.img --key-file key --listen unix:sock --sessions 1
 truncate -s 5000 short.img
-says 0 "served 1 sessions" 904 serve short.img --plain --listen stdio
-says 0 "served 1 sessions" 392 serve short.img --plain --atom 512 --listen stdio
+says 0 "served 1 sessions" 904 serve short.img --plain --listen unix:sock --sessions 1
+says 0 "served 1 sessions" 392 serve short.img --plain --atom 512 --listen unix:sock --sessions 1
 truncate -s $((size + 1000)) made.img
 "$reencd" format made.img --key-file key --iterations 1000 >/dev/null 2>err || fail "format"
 grep -q 1000 err || fail "format doesn't say how many bytes aren't served: $(cat err)"
@@ -131,9 +128,10 @@ if command -v cryptsetup >/dev/null; then
     cryptsetup -q luksAddKey --pbkdf pbkdf2 --pbkdf-force-iterations 1000 --key-file key shared.img key2 ||
         fail "cryptsetup adds no key"
     keeps shared.img 15 "fault 15 Keyslots" "slot 1" init shared.img --key-file key --iterations 1000
-    "$reencd" serve shared.img --key-file key2 --listen stdio >/dev/null 2>&1 </dev/null || fail "the other passphrase is lost"
+    "$reencd" serve shared.img --key-file key2 --listen unix:sock --sessions 1 >/dev/null 2>&1 </dev/null &
+    end_of $! || fail "the other passphrase is lost"
     "$reencd" init shared.img --key-file key --iterations 1000 --drop-keyslots >out 2>err || fail "init --drop-keyslots: $(cat err)"
-    says 5 "fault 5 NoKey" "the passphrase opens no keyslot" serve shared.img --key-file key2 --listen stdio
+    says 5 "fault 5 NoKey" "the passphrase opens no keyslot" serve shared.img --key-file key2 --listen unix:sock
 
     echo "== what init changes"
     cryptsetup -q luksFormat --type luks2 --pbkdf pbkdf2 --pbkdf-force-iterations 2000 --sector-size 4096 \
@@ -169,7 +167,7 @@ if device=$(losetup -f --show whole.img 2>/dev/null); then
     if command -v mke2fs >/dev/null && mke2fs -q "$device" && mount -o ro "$device" mounted 2>/dev/null; then
         undo=("umount mounted" "${undo[@]}")
         for words in "format $device --key-file key" "init $device --key-file key" \
-            "resume $device --key-file key" "serve $device --plain --listen stdio"; do
+            "resume $device --key-file key" "serve $device --plain --listen unix:sock"; do
             # shellcheck disable=SC2086
             keeps "$device" 2 "fault 2 Device" "reencd: $device: device in use, mounted at $room/mounted" $words
         done
@@ -209,7 +207,7 @@ else
     echo "skipped: there is no loop device"
 fi
 mkfifo pipe
-for words in "status pipe" "serve pipe --plain --listen stdio" "format pipe --key-file key"; do
+for words in "status pipe" "serve pipe --plain --listen unix:sock" "format pipe --key-file key"; do
     # shellcheck disable=SC2086
     says 2 "fault 2 Device" "reencd: pipe: neither a regular file nor a block device" $words
 done
@@ -296,21 +294,21 @@ says 1 "$fault1" "frmat" frmat disk.img
 no_hint
 says 1 "$fault1" "--resilience-hash" init disk.img --key-file key --resilience-hash sha256
 no_hint
-says 1 "$fault1" "--read-only" serve disk.img --plain --listen stdio --read-only
+says 1 "$fault1" "--read-only" serve disk.img --plain --listen unix:sock --read-only
 no_hint
 says 1 "$fault1" "reencd format" format disk.img --key-file key --key-size 512
 says 1 "$fault1" "bytes" format disk.img --key-file key --data-offset 16M
 says 1 "$fault1" "bytes" init disk.img --key-file key --hotzone-size 1M
-says 1 "$fault1" "512 or 4096" serve disk.img --plain --listen stdio --atom 1024
-says 1 "$fault1" "1 to 16" serve disk.img --plain --listen stdio --workers 17
-says 1 "$fault1" "1 to 4294967295" serve disk.img --plain --listen stdio --sessions 0
-says 1 "$fault1" "--idle-timeout" serve disk.img --plain --listen stdio --idle-timeout 0
-says 1 "$fault1" "--key-file or --plain" serve disk.img --listen stdio
-says 1 "$fault1" "--key-file or --plain, not both" serve disk.img --plain --key-file key --listen stdio
+says 1 "$fault1" "512 or 4096" serve disk.img --plain --listen unix:sock --atom 1024
+says 1 "$fault1" "1 to 16" serve disk.img --plain --listen unix:sock --workers 17
+says 1 "$fault1" "1 to 4294967295" serve disk.img --plain --listen unix:sock --sessions 0
+says 1 "$fault1" "--idle-timeout" serve disk.img --plain --listen unix:sock --idle-timeout 0
+says 1 "$fault1" "--key-file or --plain" serve disk.img --listen unix:sock
+says 1 "$fault1" "--key-file or --plain, not both" serve disk.img --plain --key-file key --listen unix:sock
 says 1 "$fault1" "--listen <ADDRESS>" serve disk.img --plain
 device="fault 2 Device"
 says 2 "$device" "reencd: missing.img: No such file or directory" status missing.img
-says 2 "$device" "reencd: missing: No such file or directory" serve good.img --key-file missing --listen stdio
+says 2 "$device" "reencd: missing: No such file or directory" serve good.img --key-file missing --listen unix:sock
 mkdir folder
 says 2 "$device" "reencd: folder: Is a directory" format folder --key-file key
 says 2 "$device" "HOST:PORT" serve disk.img --plain --listen nowhere
@@ -324,8 +322,8 @@ says 3 "fault 3 NoHeader" "reencd: header: primary: Magic; secondary: Magic" sta
 keeps good.img 5 "fault 5 NoKey" "the passphrase opens no keyslot" init good.img --key-file key2
 keeps good.img 6 "fault 6 WrongState" "nothing is being converted" resume good.img --key-file key
 keeps begun.img 6 "fault 6 WrongState" "a conversion is under way" init begun.img --key-file key
-keeps good.img 8 "fault 8 NoFit" "512" serve good.img --key-file empty --listen stdio
-keeps good.img 8 "fault 8 NoFit" "512" serve good.img --key-file long --listen stdio
+keeps good.img 8 "fault 8 NoFit" "512" serve good.img --key-file empty --listen unix:sock
+keeps good.img 8 "fault 8 NoFit" "512" serve good.img --key-file long --listen unix:sock
 truncate -s 1M small.img
 keeps small.img 8 "fault 8 NoFit" "reencd" format small.img --key-file key --iterations 1000
 if command -v cryptsetup >/dev/null; then
@@ -336,7 +334,7 @@ if command -v cryptsetup >/dev/null; then
     luks --type luks1 --iter-time 10
     keeps other.img 3 "fault 3 NoHeader" "LUKS1" status other.img
     luks --type luks2 --pbkdf argon2id --pbkdf-force-iterations 4 --pbkdf-memory 64 --pbkdf-parallel 1
-    keeps other.img 5 "fault 5 NoKey" "luksConvertKey --pbkdf pbkdf2" serve other.img --key-file key --listen stdio
+    keeps other.img 5 "fault 5 NoKey" "luksConvertKey --pbkdf pbkdf2" serve other.img --key-file key --listen unix:sock
     luks --type luks2 --pbkdf pbkdf2 --pbkdf-force-iterations 1000 --cipher aes-xts-plain
     keeps other.img 4 "fault 4 Header" "segments/0/encryption of its first copy is aes-xts-plain" status other.img
     for words in "init other.img" "resume other.img" "serve other.img --listen 127.0.0.1:0"; do
@@ -344,7 +342,7 @@ if command -v cryptsetup >/dev/null; then
         keeps other.img 4 "fault 4 Header" "segments/0/encryption of its first copy is aes-xts-plain" $words --key-file key
     done
     luks --type luks2 --pbkdf pbkdf2 --pbkdf-force-iterations 1000 --sector-size 4096
-    keeps other.img 4 "fault 4 Header" "another --atom" serve other.img --key-file key --atom 512 --listen stdio
+    keeps other.img 4 "fault 4 Header" "another --atom" serve other.img --key-file key --atom 512 --listen unix:sock
     rm -f backup.img
     cryptsetup luksHeaderBackup other.img --header-backup-file backup.img
     says 4 "fault 4 Header" "header backup" status backup.img
@@ -352,7 +350,8 @@ fi
 dd if=/dev/zero of=good.img bs=4096 count=1 conv=notrunc status=none
 "$reencd" status good.img >out 2>err || fail "status with one copy"
 grep -q 'copy' err || fail "status doesn't say that a copy is damaged: $(cat err)"
-"$reencd" serve good.img --key-file key --listen stdio >out 2>err </dev/null || fail "serve with one copy"
+"$reencd" serve good.img --key-file key --listen unix:sock --sessions 1 >out 2>err </dev/null &
+end_of $! || fail "serve with one copy"
 grep -q 'copy' err || fail "serve doesn't say that it rewrote a copy: $(cat err)"
 "$reencd" status good.img >out 2>err || fail "status of a copy that was rewritten"
 [ -s err ] && fail "status says of a sound header: $(cat err)"

@@ -1,9 +1,14 @@
 """The command `run`."""
 
 import importlib.util
+import os
 import time
 
 from . import scripts
+from .machine.bay import Bay
+from .machine.commands import ended_by
+
+STORED = os.path.join(scripts.ROOT, "crates/reencd")
 
 
 def first_difference(found, wanted):
@@ -24,16 +29,26 @@ def judged(name, part):
     return script.lines, f"{told}, in {time.monotonic() - begun:.1f} s"
 
 
+def is_stored():
+    """Whether what is stored as the output of the program's own run is what its words print."""
+    words = scripts.read(os.path.join(STORED, "args")).split("\n")[:-1]
+    _, _, text = ended_by(Bay({}, {}, b""), " ".join(words))
+    is_same = scripts.read(os.path.join(STORED, "stdout")) == text
+    print(f"{' '.join(words)}: {'as' if is_same else 'not as'} the oracle has it")
+    return is_same
+
+
 def main(words):
     if importlib.util.find_spec("cryptography") is None:
         print("the rows aren't judged: there is no module cryptography")
         return 77
     writes, all_names = "--write" in words, scripts.names()
-    wanted = [word for word in words if word != "--write"] or all_names
+    named = [word for word in words if word != "--write"]
+    wanted = named or all_names
     if not set(wanted) <= set(all_names):
         print("run [--write] [NAME..], of", *all_names)
         return 2
-    parts, is_right = scripts.parts(scripts.read(scripts.STDOUT)), True
+    parts, is_right = scripts.parts(scripts.read(scripts.STDOUT)), bool(named) or is_stored()
     for name in wanted:
         lines, told = judged(name, parts.get(name, []))
         is_same = lines == parts.get(name)

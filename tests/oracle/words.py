@@ -91,6 +91,11 @@ OPTIONS = {
         "idle-timeout": (number(1, 86400), None),
     },
     "status": {"atom": (atom, 4096)},
+    "demo": {
+        "seed": (number(0, MOST), None),
+        "blocks": (number(1, 16384), None),
+        "workers": (number(1, 16), None),
+    },
 }
 FLAGS = {"init": ("drop-keyslots",), "serve": ("plain", "no-worker", "verbose")}
 
@@ -137,18 +142,21 @@ def checked(command, found):
     if command == "serve":
         if found["plain"] == (found["key_file"] is not None) or found["listen"] is None:
             raise Faulty("serve")
+    if command == "demo" and None in (found["seed"], found["blocks"], found["workers"]):
+        raise Faulty("demo")
     return found
 
 
 def asked(words):
-    """What words ask for, by the names of options; which command, and of which disk."""
+    """What words ask for, by the names of options; which command, and of which disk, but `demo`,
+    which has its own."""
     command = words[0] if words else None
     if command not in OPTIONS:
         raise Faulty(command)
     options, flags = OPTIONS[command], FLAGS.get(command, ())
     given, alone = values_of(words[1:], options, flags)
-    if len(alone) != 1:
-        raise Faulty("a command has one disk")
+    if len(alone) != (command != "demo"):
+        raise Faulty("a command has one disk, and `demo` none")
     found = {name: default for name, (_, default) in options.items()} | dict.fromkeys(flags, False)
     found = {name.replace("-", "_"): value for name, value in (found | given).items()}
-    return checked(command, found | {"command": command, "disk": alone[0]})
+    return checked(command, found | {"command": command, "disk": "".join(alone)})

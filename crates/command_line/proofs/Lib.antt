@@ -1,3 +1,4 @@
+pub mod DemoLemmas
 pub mod FormatLemmas
 pub mod ItemLemmas
 pub mod LeafLemmas

@@ -6,6 +6,8 @@ use Rattle.std.specs.Str.{bytes_eq}
 use Rattle.clap.specs.Walk.{Row, Text, first_of}
 use Rattle.clap.specs.Simple.{subcommand_of}
 use Rattle.clap.specs.Faults.{fault_of}
+use Rattle.command_line.specs.Demonstrations.{Demonstrating, IsDemonstrating, demonstrating}
+use Rattle.command_line.specs.Demonstrations.{demonstrating_in}
 use Rattle.command_line.specs.Formats.{Formatting, IsFormatting, formatting, formatting_in}
 use Rattle.command_line.specs.Product.{product}
 use Rattle.command_line.specs.Resumes.{Resuming, resuming, resuming_in}
@@ -44,6 +46,7 @@ pub data Asked : Type 0 where
   serves : Serving → Asked
   resumes : Resuming → Asked
   shows : Showing → Asked
+  demonstrates : Demonstrating → Asked
 
 abbrev pub serving : Serve → Serving
 serving words = record {
@@ -67,6 +70,7 @@ asked_by (commands.Init words) = starts (starting words)
 asked_by (commands.Serve words) = serves (serving words)
 asked_by (commands.Resume words) = resumes (resuming words)
 asked_by (commands.Status words) = shows (showing words)
+asked_by (commands.Demo words) = demonstrates (demonstrating words)
 
 -- the values of a command are within their bounds
 pub record IsServing (words : Serving) : Type 0 where
@@ -82,6 +86,7 @@ IsBounded (starts words) = IsStarting words
 IsBounded (serves words) = IsServing words
 IsBounded (resumes words) = IsAtomSize words.atom
 IsBounded (shows words) = IsAtomSize words.atom
+IsBounded (demonstrates words) = IsDemonstrating words
 
 -- the key file of a volume that is served, or that a disk is served plain: one of both is asked
 -- for, and no header that lies on a disk of its own
@@ -118,14 +123,16 @@ showing_in rows = do
   atom ← atom_or_default (first_of (codes "atom") rows)
   if is_given (codes "header") rows then None else Some (record { disk = disk; atom = atom })
 
--- the command of this name, with these values; no other is built yet
+-- the command of this name, with these values; there is no other
 unfoldable pub command_in : Text → List Row → Option Asked
 command_in name rows =
     if bytes_eq name (codes "format") then option_map formats (formatting_in rows)
     else (if bytes_eq name (codes "init") then option_map starts (starting_in rows)
     else (if bytes_eq name (codes "serve") then option_map serves (serving_in rows)
     else (if bytes_eq name (codes "resume") then option_map resumes (resuming_in rows)
-    else (if bytes_eq name (codes "status") then option_map shows (showing_in rows) else None))))
+    else (if bytes_eq name (codes "status") then option_map shows (showing_in rows)
+    else (if bytes_eq name (codes "demo") then option_map demonstrates (demonstrating_in rows)
+    else None)))))
 
 -- What the words ask for: where `clap` takes them, the command that it finds in them, if each of
 -- its values is of its form and in its range.

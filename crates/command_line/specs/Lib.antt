@@ -1,4 +1,5 @@
 pub mod Commands
+pub mod Demonstrations
 pub mod Formats
 pub mod Items
 pub mod Plain

@@ -4,8 +4,9 @@ use Rattle.std.specs.Prelude.{Option, Some, None, option_map}
 use Rattle.std.specs.List.{list_any}
 use Rattle.std.specs.Str.{bytes_eq}
 use Rattle.clap.specs.Walk.{Text}
-use Rattle.command_line.specs.Commands.{Asked, Serving, Showing, formats, resumes, serves, shows}
-use Rattle.command_line.specs.Commands.{starts}
+use Rattle.command_line.specs.Commands.{Asked, Serving, Showing, demonstrates, formats, resumes}
+use Rattle.command_line.specs.Commands.{serves, shows, starts}
+use Rattle.command_line.specs.Demonstrations.{Demonstrating, demonstrating_by}
 use Rattle.command_line.specs.Formats.{Formatting, formatting_by}
 use Rattle.command_line.specs.Resumes.{Resuming}
 use Rattle.command_line.specs.Starts.{Starting, starting_by}
@@ -54,7 +55,7 @@ AreOnce [] = Unit {0}
 AreOnce (piece ∷ pieces) =
     (list_any (λ other. bytes_eq (name_of piece) (name_of other)) pieces ≡ false) × AreOnce pieces
 
--- what of these words a `format` may have, an `init`, a `serve`, a `resume`, and a `status`
+-- what of these words a `format` may have, an `init`, a `serve`, a `resume`, a `status`, and a `demo`
 abbrev pub IsFormatPiece : Piece → Type 0
 IsFormatPiece (disk word) = IsPlain word
 IsFormatPiece (valued name value) = IsPlain value × ((name ≡ codes "key-file")
@@ -89,6 +90,12 @@ abbrev pub IsStatusPiece : Piece → Type 0
 IsStatusPiece (disk word) = IsPlain word
 IsStatusPiece (valued name value) = IsPlain value × (name ≡ codes "atom")
 IsStatusPiece (flag name) = ⊥
+
+abbrev pub IsDemoPiece : Piece → Type 0
+IsDemoPiece (disk word) = ⊥
+IsDemoPiece (valued name value) = IsPlain value
+    × ((name ≡ codes "seed") ⊎ (name ≡ codes "blocks") ⊎ (name ≡ codes "workers"))
+IsDemoPiece (flag name) = ⊥
 
 unfoldable pub AllPieces : (Piece → Type 0) → List Piece → Type 0
 AllPieces Is [] = Unit {0}
@@ -156,6 +163,13 @@ pub record IsStatus (pieces : List Piece) (words : Showing) : Type 0 where
   pub disk_is : value_in (codes "disk") pieces ≡ Some words.disk
   pub atom_is : atom_or_default (value_in (codes "atom") pieces) ≡ Some words.atom
 
+-- The pieces of a `demo`, in any order: `--seed`, `--blocks` and `--workers` are there, and no piece is
+-- twice. The seed is below 2 ^ 64, the blocks are 1 to 16384 and the workers 1 to 16.
+pub record IsDemo (pieces : List Piece) (words : Demonstrating) : Type 0 where
+  pub known : AllPieces IsDemoPiece pieces
+  pub once : AreOnce pieces
+  pub values_are : demonstrating_by (λ name. value_in name pieces) ≡ Some words
+
 -- plain words are never refused: what they ask for is what their pieces say
 abbrev pub TakesFormat : (List Text → Option Asked) → Type 0
 TakesFormat asked = (pieces : List Piece) (words : Formatting) → IsFormat pieces words →
@@ -176,3 +190,7 @@ TakesResume asked = (pieces : List Piece) (words : Resuming) → IsResume pieces
 abbrev pub TakesStatus : (List Text → Option Asked) → Type 0
 TakesStatus asked = (pieces : List Piece) (words : Showing) → IsStatus pieces words →
     asked (codes "status" ∷ all_spelt pieces) ≡ Some (shows words)
+
+abbrev pub TakesDemo : (List Text → Option Asked) → Type 0
+TakesDemo asked = (pieces : List Piece) (words : Demonstrating) → IsDemo pieces words →
+    asked (codes "demo" ∷ all_spelt pieces) ≡ Some (demonstrates words)

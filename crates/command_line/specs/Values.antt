@@ -38,6 +38,11 @@ unfoldable pub number_or : ℕ → ℕ → ℕ → Option Text → Option ℕ
 number_or default least most None = Some default
 number_or default least most (Some word) = number_within least most word
 
+-- the value of an option that is a number and must be there
+unfoldable pub number_in : ℕ → ℕ → Option Text → Option ℕ
+number_in least most None = None
+number_in least most (Some word) = number_within least most word
+
 -- the value of an option that is a number, where it is there
 unfoldable pub number_or_none : ℕ → ℕ → Option Text → Option (Option ℕ)
 number_or_none least most None = Some None

@@ -18,6 +18,7 @@ ghost use Rattle.command_line.specs.Commands.{
   showing_in,
 };
 
+use crate::demonstrating::{Demo, read_demo};
 use crate::formatting::{Format, read_format};
 use crate::product::product;
 use crate::resuming::{Resume, read_resume};
@@ -68,6 +69,7 @@ pub enum Command<'a> {
     Serve(Serve<'a>),
     Resume(Resume<'a>),
     Status(Status<'a>),
+    Demo(Demo),
 }
 
 /// Why no command was read.
@@ -197,7 +199,11 @@ fn read_command<'a>(name: &str, matches: &ArgMatches<'a>) -> Result<Command<'a>,
         let status = read_status(matches)?;
         return Ok(Command::Status(status));
     }
-    Err(Refused("this command is not built yet"))
+    if name == "demo" {
+        let demo = read_demo(matches)?;
+        return Ok(Command::Demo(demo));
+    }
+    Err(Refused("there is no such command"))
 }
 
 /// Why no command was read, with what a person is told.

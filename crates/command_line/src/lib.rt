@@ -8,6 +8,7 @@
 #![tactic(auto)]
 
 mod command;
+mod demonstrating;
 mod explaining;
 mod formatting;
 mod item;
@@ -19,6 +20,7 @@ mod starting;
 mod values;
 
 pub use command::{Command, Refusal, Serve, Status, read_words};
+pub use demonstrating::Demo;
 pub use explaining::{asked_help, explain_words};
 pub use formatting::Format;
 pub use laws::plain_words_are_taken;

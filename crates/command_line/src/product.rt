@@ -87,6 +87,8 @@ const RESUME_EXAMPLE: &str = "Example: reencd resume disk.img --key-file key";
 
 const STATUS_EXAMPLE: &str = "Example: reencd status disk.img";
 
+const DEMO_EXAMPLE: &str = "Example: reencd demo --seed 5 --blocks 64 --workers 4";
+
 #[tactic(auto, unfolding(crate::specs::Product::format_rules))]
 fn format<'a>(alloc: Global) -> Result<Command<'a>, AllocError>
     ensures shape { IfOk result (λ c. app_of c ≡ format_app) }
@@ -201,7 +203,7 @@ fn serve<'a>(alloc: Global) -> Result<Command<'a>, AllocError>
         Item::Valued {
             name: "listen",
             value: "ADDRESS",
-            help: "Where clients connect: HOST:PORT, unix:PATH, or stdio",
+            help: "Where clients connect: HOST:PORT, or unix:PATH",
             required: true,
         },
         Item::Valued {
@@ -279,7 +281,7 @@ fn demo<'a>(alloc: Global) -> Result<Command<'a>, AllocError>
         Item::Valued {
             name: "seed",
             value: "N",
-            help: "What all random bytes come from",
+            help: "What all random bytes come from: 0 to 18446744073709551615",
             required: true,
         },
         Item::Valued {
@@ -291,12 +293,17 @@ fn demo<'a>(alloc: Global) -> Result<Command<'a>, AllocError>
         Item::Valued {
             name: "workers",
             value: "N",
-            help: "The sessions: 1 to 16",
+            help: "The clients, which are served at once: 1 to 16",
             required: true,
         },
     ];
-    let demo = leaf(alloc, "demo", "Convert a volume in memory", "", &items)?;
-    Ok(demo.hide(true))
+    leaf(
+        alloc,
+        "demo",
+        "Convert a volume in memory while clients use it",
+        DEMO_EXAMPLE,
+        &items,
+    )
 }
 
 /// The command of this name, as a person's texts show it; the whole command line where there is
@@ -312,6 +319,8 @@ pub fn command_named<'a>(alloc: Global, name: &str) -> Result<Command<'a>, Alloc
         resume(alloc)?.bin_name("reencd resume")
     } else if name == "status" {
         status(alloc)?.bin_name("reencd status")
+    } else if name == "demo" {
+        demo(alloc)?.bin_name("reencd demo")
     } else {
         product(alloc)
     }

@@ -10,6 +10,7 @@ ghost use Rattle.command_line.specs.Values.{
   is_given,
   is_number,
   is_set,
+  number_in,
   number_or,
   number_or_none,
   number_within,
@@ -114,6 +115,27 @@ pub fn number_or(
     let Some(word) = text_of(matches, name) else {
         return Ok(default);
     };
+    match number_within(word, least, most) {
+        Some(number) => Ok(number),
+        None => Err(refused),
+    }
+}
+
+/// The value of an option that is a number within these bounds and must be there, as `clap` sees to.
+#[tactic(auto, unfolding(crate::specs::Values::number_in))]
+pub fn required_number(
+    matches: &ArgMatches<'_>,
+    name: &str,
+    least: u64,
+    most: u64,
+    refused: Refused,
+) -> Result<u64, Refused>
+    ensures reads { Reads (λ number. number) result
+        (number_in least most (first_of name.now (rows_of (found_of matches.now)))) }
+    ensures above { IfOk result (λ number. least ≤ number) }
+    ensures within { IfOk result (λ number. number ≤ most) }
+{
+    let word = required(matches, name)?;
     match number_within(word, least, most) {
         Some(number) => Ok(number),
         None => Err(refused),

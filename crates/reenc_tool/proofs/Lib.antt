@@ -1,6 +1,8 @@
 mod AgainForLemmas
 mod BesideLemmas
 mod ConcludingLemmas
+mod DemoLemmas
+mod DemoSeeds
 mod EndForLemmas
 mod IdleLemmas
 mod MakingLemmas

@@ -27,7 +27,7 @@ use Rattle.reenc_tool.specs.Outcomes.{Coming, Outcome, unserved}
 use Rattle.reenc_tool.specs.Plain.{IsPlainVolume}
 use Rattle.reenc_tool.specs.Encrypted.{AsksKey, HandsBack, RanOver}
 use Rattle.reenc_tool.specs.Linking.{AsksLinks, IsLinked}
-use Rattle.reenc_tool.specs.Promise.{LeavesRest, ServesBy}
+use Rattle.reenc_tool.specs.Servicing.{LeavesRest, ServesBy}
 use Rattle.reenc_tool.specs.Runs.{HasServed, VolumeKeys}
 use Rattle.reenc_tool.specs.Volumes.{IsServedAs, RanAs}
 use Rattle.luks_store.specs.declared.fault.StoreFault.{StoreFault}
@@ -137,8 +137,9 @@ abbrev pub unserved_of : {D L : Type 0} → Cause → Option D → List L → Ou
 unserved_of cause disk links = unserved cause disk links
 
 abbrev pub handed_back : {D L : Type 0} → Cause → Option StoreFault → Option VolumeRefusal → Bool →
-    Option D → Option D → Option (Knowing Context) → List L → List (List SessionEnd) → Outcome D L
-handed_back cause fault refusal memory disk header pass links ends = record {
+    Option D → Option D → Option (Knowing Context) → Option (Knowing Context) → List L →
+    List (List SessionEnd) → Outcome D L
+handed_back cause fault refusal memory disk header pass demo links ends = record {
   cause = cause;
   fault = fault;
   refusal = refusal;
@@ -146,6 +147,7 @@ handed_back cause fault refusal memory disk header pass links ends = record {
   disk = disk;
   header = header;
   pass = pass;
+  demo = demo;
   links = links;
   ends = ends;
 }
@@ -153,25 +155,31 @@ handed_back cause fault refusal memory disk header pass links ends = record {
 -- what is handed back is the same where each part is
 pub same_outcome : {D L : Type 0} (cause : Cause) (fault fault' : Option StoreFault)
     (refusal refusal' : Option VolumeRefusal) (memory memory' : Bool)
-    (disk disk' header header' : Option D) (pass pass' : Option (Knowing Context))
+    (disk disk' header header' : Option D) (pass pass' demo demo' : Option (Knowing Context))
     (links links' : List L) (ends ends' : List (List SessionEnd)) → fault ≡ fault' →
     refusal ≡ refusal' → memory ≡ memory' → disk ≡ disk' → header ≡ header' → pass ≡ pass' →
-    links ≡ links' → ends ≡ ends' →
-    handed_back cause fault refusal memory disk header pass links ends
-    ≡ handed_back cause fault' refusal' memory' disk' header' pass' links' ends'
+    demo ≡ demo' → links ≡ links' → ends ≡ ends' →
+    handed_back cause fault refusal memory disk header pass demo links ends
+    ≡ handed_back cause fault' refusal' memory' disk' header' pass' demo' links' ends'
 same_outcome {D} {L} cause fault fault' refusal refusal' memory memory' disk disk' header header'
-    pass pass' links links' ends ends' f r m a h p b c =
-    ap (λ (w : Option StoreFault). handed_back cause w refusal memory disk header pass links ends) f
+    pass pass' demo demo' links links' ends ends' f r m a h p d b c =
+    ap (λ (w : Option StoreFault).
+    handed_back cause w refusal memory disk header pass demo links ends) f
     ∙ ap (λ (w : Option VolumeRefusal).
-    handed_back cause fault' w memory disk header pass links ends) r
-    ∙ ap (λ (w : Bool). handed_back cause fault' refusal' w disk header pass links ends) m
-    ∙ ap (λ (d : Option D). handed_back cause fault' refusal' memory' d header pass links ends) a
-    ∙ ap (λ (d : Option D). handed_back cause fault' refusal' memory' disk' d pass links ends) h
+    handed_back cause fault' w memory disk header pass demo links ends) r
+    ∙ ap (λ (w : Bool). handed_back cause fault' refusal' w disk header pass demo links ends) m
+    ∙ ap (λ (w : Option D).
+    handed_back cause fault' refusal' memory' w header pass demo links ends) a
+    ∙ ap (λ (w : Option D).
+    handed_back cause fault' refusal' memory' disk' w pass demo links ends) h
     ∙ ap (λ (w : Option (Knowing Context)).
-    handed_back cause fault' refusal' memory' disk' header' w links ends) p
-    ∙ ap (λ (l : List L). handed_back cause fault' refusal' memory' disk' header' pass' l ends) b
+    handed_back cause fault' refusal' memory' disk' header' w demo links ends) p
+    ∙ ap (λ (w : Option (Knowing Context)).
+    handed_back cause fault' refusal' memory' disk' header' pass' w links ends) d
+    ∙ ap (λ (l : List L).
+    handed_back cause fault' refusal' memory' disk' header' pass' demo' l ends) b
     ∙ ap (λ (e : List (List SessionEnd)).
-    handed_back cause fault' refusal' memory' disk' header' pass' links' e) c
+    handed_back cause fault' refusal' memory' disk' header' pass' demo' links' e) c
 
 -- so it is where the pass alone is another
 pub passed : {D L : Type 0} (outcome : Outcome D L) (pass pass' : Option (Knowing Context)) →

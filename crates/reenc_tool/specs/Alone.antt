@@ -1,12 +1,12 @@
 -- What words did that were executed without clients.
 use Rattle.std.specs.Prelude.{ℕ, ◌≡◌, ◌⊎◌, List, [], map, Option, Some, None, string_bytes}
 use Rattle.bays.specs.Bays.{Holdings}
-use Rattle.command_line.specs.Commands.{IsServing, Showing, asked, formats, resumes, serves, serving}
-use Rattle.command_line.specs.Commands.{shows, starts}
+use Rattle.command_line.specs.Commands.{Asked, IsBounded, Showing, asked, demonstrates, formats}
+use Rattle.command_line.specs.Commands.{resumes, serves, serving, shows, starts}
+use Rattle.command_line.specs.Demonstrations.{demonstrating}
 use Rattle.command_line.specs.Formats.{Formatting}
 use Rattle.command_line.specs.Resumes.{Resuming}
 use Rattle.command_line.specs.Starts.{Starting}
-use Rattle.command_line.specs.declared.command.Serve.{Serve}
 use Rattle.io_edge.specs.Supply.{Supply}
 use Rattle.sector_disk.specs.Devices.{Device as DiskState}
 use Rattle.reenc_tool.specs.declared.alone.Alone.{Alone}
@@ -45,19 +45,21 @@ CameAlone device holdings asks_disk asks_reading asks_key words supply now old n
     × HasResumed device holdings asks_disk asks_key resume old new outcome report)
 
 -- ---- commands without clients, and the words of those with them
--- a command came to its end, of which the one holds; or its words are handed back, of which the other does
-abbrev pub MatchAlone : {T : Type 0} → Alone T → (T → Type 0) → (Serve → Type 0) → Type 0
+-- a command came to its end, of which the one holds; or what it says is handed back, of which the other
+-- does
+abbrev pub MatchAlone : {T : Type 0} → Alone T → (T → Type 0) → (Asked → Type 0) → Type 0
 MatchAlone (alones.Ended ended) IsEnd IsSaid = IsEnd ended
-MatchAlone (alones.Serve serve) IsEnd IsSaid = IsSaid serve
+MatchAlone (alones.Serve serve) IsEnd IsSaid = IsSaid (serves (serving serve))
+MatchAlone (alones.Demo demo) IsEnd IsSaid = IsSaid (demonstrates (demonstrating demo))
 
 abbrev pub IfEnded : {T : Type 0} → Alone T → (T → Type 0) → Type 0
 IfEnded alone IsEnd = MatchAlone alone IsEnd (λ _. Unit {0})
 
--- The words ask for clients to be served, so, with each value within its bounds; and nothing was asked
--- of the bay, and nothing drawn.
-pub record IsHandedBack {B R : Type 0} (words : List (List ℕ)) (serve : Serve) (old new : B)
+-- The words ask for this, which has clients, with each value within its bounds; and nothing was asked of
+-- the bay, and nothing drawn.
+pub record IsHandedBack {B R : Type 0} (words : List (List ℕ)) (says : Asked) (old new : B)
     (seeds drawn : R) : Type 0 where
-  pub asked_is : asked words ≡ Some (serves (serving serve))
-  pub bounded : IsServing (serving serve)
+  pub asked_is : asked words ≡ Some says
+  pub bounded : IsBounded says
   pub bay : new ≡ old
   pub seeds_are : drawn ≡ seeds

@@ -98,6 +98,7 @@ ended_unopened refusal header disk faults = record {
   disk = Some disk;
   header = header;
   pass = None;
+  demo = None;
   links = [];
   ends = [];
 }

@@ -1,5 +1,6 @@
 pub mod Alone
 pub mod Beside
+pub mod Demonstrating
 pub mod Encrypted
 pub mod Ending
 pub mod KeptBeside
@@ -12,6 +13,7 @@ pub mod Promise
 pub mod Kept
 pub mod Resuming
 pub mod Runs
+pub mod Servicing
 pub mod Sessions
 pub mod Showing
 pub mod Standings

@@ -26,8 +26,8 @@ known_by (Encrypted pass) = known pass
 
 -- what a command hands back: its cause, and why no header was shown or no volume opened; whether
 -- memory was wanted for a session's end; its disk, and that of a detached header; what is known by
--- the pass of the volume whose sessions were served; and its links, with the ends of each link's
--- sessions
+-- the pass of the volume whose sessions were served, or of the one in memory that `demo` served; and
+-- its links, with the ends of each link's sessions
 pub record Outcome (D L : Type 0) : Type 0 where
   pub cause : Cause
   pub fault : Option StoreFault
@@ -36,6 +36,7 @@ pub record Outcome (D L : Type 0) : Type 0 where
   pub disk : Option D
   pub header : Option D
   pub pass : Option (Knowing Context)
+  pub demo : Option (Knowing Context)
   pub links : List L
   pub ends : List (List SessionEnd)
 
@@ -48,6 +49,7 @@ outcome_of ended = record {
   disk = ended.disk;
   header = ended.header;
   pass = option_map (λ pass. known_by pass) ended.pass;
+  demo = option_map (λ pass. known_by pass) ended.demo;
   links = ended.links.items;
   ends = map (λ list. list.items) ended.sessions.items;
 }
@@ -85,6 +87,7 @@ ended_by came disk header = record {
   disk = disk;
   header = header;
   pass = came.pass;
+  demo = None;
   links = came.links;
   ends = came.ends;
 }

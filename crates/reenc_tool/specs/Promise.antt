@@ -1,59 +1,21 @@
 -- What a command did.
-use Rattle.std.specs.Prelude.{ℕ, ◌≡◌, ◌≢◌, ◌⊎◌, List, Option, Some, None, Ok}
-use Rattle.bays.specs.Bays.{Holdings, LeavesOtherDisks}
+use Rattle.std.specs.Prelude.{◌≡◌, ◌⊎◌, ℕ, List, Option, Some}
+use Rattle.bays.specs.Bays.{Holdings}
 use Rattle.bays.specs.Stories.{LinkState}
+use Rattle.command_line.specs.Commands.{Serving, asked, demonstrates, serves}
+use Rattle.command_line.specs.Demonstrations.{Demonstrating}
+use Rattle.io_edge.specs.Supply.{Supply}
 use Rattle.sector_disk.specs.Devices.{Device as DiskState}
 use Rattle.reenc_tool.specs.Alone.{CameAlone}
+use Rattle.reenc_tool.specs.Demonstrating.{HasDemonstrated}
 use Rattle.reenc_tool.specs.Encrypted.{AsksKey}
-use Rattle.reenc_tool.specs.KeyFiles.{ServesVolume}
 use Rattle.reenc_tool.specs.Linking.{AsksLinks}
-use Rattle.reenc_tool.specs.Plain.{ServesPlain}
-use Rattle.reenc_tool.specs.Outcomes.{AsksDisk, HasNoDisk, Outcome}
-use Rattle.command_line.specs.Commands.{Serving, asked, serves}
-use Rattle.io_edge.specs.Supply.{Supply}
+use Rattle.reenc_tool.specs.Outcomes.{AsksDisk, Outcome}
+use Rattle.reenc_tool.specs.Servicing.{Serviced}
 
--- What came of the disk that a bay gave: it was served as it is, or a key file was asked for, and
--- the volume on the disk was served that it opens.
-abbrev pub ServesBy : {B D L : Type 0} → (D → DiskState) → (L → LinkState) → (B → Holdings D) →
-    AsksKey B → AsksLinks B L → Serving → Option (List ℕ) → D → B → B → Outcome D L → Type 0
-ServesBy device state holdings asks_key asks_links serve None disk between new outcome =
-    ServesPlain device state holdings asks_links serve disk between new outcome
-ServesBy device state holdings asks_key asks_links serve (Some key_file) disk between new outcome =
-    ServesVolume device state holdings asks_key asks_links serve key_file disk between new outcome
-
--- The bay was asked once for the disk that the words name, with atoms of the size that they say,
--- and gave it: it is the one on its shelf, which all else left.
-pub record HasDisk {B D L : Type 0} (device : D → DiskState) (state : L → LinkState)
-    (holdings : B → Holdings D) (asks_disk : AsksDisk B D) (asks_key : AsksKey B)
-    (asks_links : AsksLinks B L) (serve : Serving) (old new : B) (outcome : Outcome D L) : Type 0
-  where
-    pub disk : D
-    pub between : B
-    pub asked : asks_disk old serve.disk serve.atom (Ok disk) between
-    pub kept : (kept : D) → (holdings old).shelf serve.disk ≡ Some kept → disk ≡ kept
-    pub atom_is : (device disk).size ≡ serve.atom
-    pub stood : (holdings between).faults ≡ (holdings old).faults
-    pub leaves : LeavesOtherDisks serve.disk (holdings old) (holdings between)
-    pub ended : ServesBy device state holdings asks_key asks_links serve serve.key_file disk between
-        new outcome
-
--- a command leaves all of a bay but the disk and the clients that it asked for
-pub record LeavesRest {D : Type 0} (serve : Serving) (old new : Holdings D) : Type 0 where
-  pub disks : (other : List ℕ) → other ≢ serve.disk → new.shelf other ≡ old.shelf other
-  pub keys : new.keyring ≡ old.keyring
-  pub clients : (other : List ℕ) → other ≢ serve.address → new.inputs other ≡ old.inputs other
-
--- what a command did that was told to serve
-abbrev pub Serviced : {B D L : Type 0} → (D → DiskState) → (L → LinkState) → (B → Holdings D) →
-    AsksDisk B D → AsksKey B → AsksLinks B L → Serving → B → B → Outcome D L →
-    Option (List ℕ) → Type 0
-Serviced device state holdings asks_disk asks_key asks_links serve old new outcome report =
-    (report ≡ None) × LeavesRest serve (holdings old) (holdings new)
-    × (HasDisk device state holdings asks_disk asks_key asks_links serve old new outcome
-    ⊎ HasNoDisk holdings asks_disk serve.disk serve.atom None old new outcome)
-
--- What a command did whose words were read, or not: it was told to serve, and has no report; or it
--- is one without clients, or the words ask for nothing, or memory was wanted.
+-- What a command did whose words were read, or not: it was told to serve, and has no report; or to show
+-- all of it on a volume in memory, and asked nothing of the bay; or it is one without clients, or the
+-- words ask for nothing, or memory was wanted.
 abbrev pub Came : {B D L : Type 0} → (D → DiskState) → (L → LinkState) → (B → Holdings D) →
     AsksDisk B D → AsksDisk B D → AsksKey B → AsksLinks B L → List (List ℕ) → Supply → Supply →
     B → B → Outcome D L → Option (List ℕ) → Type 0
@@ -61,5 +23,7 @@ Came device state holdings asks_disk asks_reading asks_key asks_links words supp
     outcome report =
     ((serve : Serving) × (asked words ≡ Some (serves serve))
     × Serviced device state holdings asks_disk asks_key asks_links serve old new outcome report)
+    ⊎ ((demo : Demonstrating) × (asked words ≡ Some (demonstrates demo)) × (new ≡ old)
+    × HasDemonstrated demo outcome report)
     ⊎ CameAlone device holdings asks_disk asks_reading asks_key words supply now old new outcome
     report

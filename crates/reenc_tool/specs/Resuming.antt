@@ -100,6 +100,7 @@ ended_unresumed refusal header disk faults = record {
   disk = Some disk;
   header = header;
   pass = None;
+  demo = None;
   links = [];
   ends = [];
 }

@@ -21,6 +21,7 @@ shown disk faults (Ok text) = record {
   disk = Some disk;
   header = None;
   pass = None;
+  demo = None;
   links = [];
   ends = [];
 }
@@ -32,6 +33,7 @@ shown disk faults (Err fault) = record {
   disk = Some disk;
   header = None;
   pass = None;
+  demo = None;
   links = [];
   ends = [];
 }

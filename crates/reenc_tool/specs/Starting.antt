@@ -74,6 +74,7 @@ ended_unstarted refusal disk faults = record {
   disk = Some disk;
   header = None;
   pass = None;
+  demo = None;
   links = [];
   ends = [];
 }

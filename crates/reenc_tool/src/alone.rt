@@ -19,7 +19,7 @@ use crate::showing::show;
 use crate::starting::start;
 use crate::text::print_end;
 use bays::Bay;
-use command_line::{Command, Refusal, Serve, read_words};
+use command_line::{Command, Demo, Refusal, Serve, read_words};
 use gates::Gate;
 use io_edge::{Seeds, Sink};
 use std::alloc::Global;
@@ -32,6 +32,8 @@ pub enum Alone<'w, T> {
     Ended(T),
     /// The words ask for clients to be served, as these say. Nothing was done.
     Serve(Serve<'w>),
+    /// The words ask for clients to be served on a volume in memory, as these say. Nothing was done.
+    Demo(Demo),
 }
 
 /// Executes the command that the words ask for, and gives its report, where it has one. Hands back
@@ -49,7 +51,7 @@ fn execute<'w, W: Threads + Sync, B: Bay, R: Seeds, G: Gate>(
         (λ told. CameAlone B.Disk.device B.holdings B.asks_disk B.asks_reading B.asks_key
         (map string_bytes words.now) (R.supply seeds.old) (R.supply seeds.new) bay.old bay.new
         (outcome_of told.0) (option_map (λ text. string_bytes text) told.1))
-        (λ serve. IsHandedBack (map string_bytes words.now) serve bay.old bay.new seeds.old
+        (λ says. IsHandedBack (map string_bytes words.now) says bay.old bay.new seeds.old
         seeds.new) }
     ensures unasked { asked (map string_bytes words.now) ≡ None → bay.new ≡ bay.old }
     ensures seeds { DrawsNone (map string_bytes words.now) seeds.old seeds.new }
@@ -70,6 +72,7 @@ fn execute<'w, W: Threads + Sync, B: Bay, R: Seeds, G: Gate>(
         Command::Serve(words) => Alone::Serve(words),
         Command::Resume(words) => Alone::Ended(resume(rt, alloc, bay, &words, gate)),
         Command::Status(words) => Alone::Ended(show(alloc, bay, &words, gate)),
+        Command::Demo(words) => Alone::Demo(words),
     }
 }
 
@@ -82,8 +85,8 @@ fn execute<'w, W: Threads + Sync, B: Bay, R: Seeds, G: Gate>(
 /// What holds at the end of `format`, of `init`, of `resume`, of `status` and of words that ask for
 /// nothing is `CameAlone` of `specs/`, before the text is printed, by which `run` says what it does.
 /// The text changes the cause only where all was fine: to `Output` where it can't be put and pushed
-/// out, to `Memory` where memory is wanted for it. Where the words ask for clients to be served, the
-/// bay, the seeds and the output are as they were; or memory was wanted before that was known, which
+/// out, to `Memory` where memory is wanted for it. Where the words ask for clients to be served, also those
+/// of `demo`, the bay, the seeds and the output are as they were; or memory was wanted before that was known, which
 /// is then the cause. Words that ask for nothing leave the bay as it was, and those of other commands
 /// than `format` and `init` the seeds.
 pub fn run_alone<'w, W: Threads + Sync, B: Bay, R: Seeds, O: Sink, G: Gate>(
@@ -104,7 +107,7 @@ pub fn run_alone<'w, W: Threads + Sync, B: Bay, R: Seeds, O: Sink, G: Gate>(
         (record (outcome_of ended) { cause = cause }) report
         × Prints (O.outlet out.old) (O.outlet out.new) (text_of cause ended.cause
         (said report (sessions_in (λ list. vec_len list) ended.sessions.items))))
-        (λ serve. IsHandedBack (map string_bytes words.now) serve bay.old bay.new seeds.old
+        (λ says. IsHandedBack (map string_bytes words.now) says bay.old bay.new seeds.old
         seeds.new × (out.new ≡ out.old)) }
     ensures unasked { asked (map string_bytes words.now) ≡ None → bay.new ≡ bay.old }
     ensures seeds { DrawsNone (map string_bytes words.now) seeds.old seeds.new }
@@ -112,5 +115,6 @@ pub fn run_alone<'w, W: Threads + Sync, B: Bay, R: Seeds, O: Sink, G: Gate>(
     match execute(rt, alloc, words, bay, seeds, gate) {
         Alone::Ended((ended, report)) => Alone::Ended(print_end(alloc, out, ended, &report)),
         Alone::Serve(words) => Alone::Serve(words),
+        Alone::Demo(words) => Alone::Demo(words),
     }
 }

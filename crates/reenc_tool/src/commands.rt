@@ -4,7 +4,8 @@ ghost use Rattle.std.specs.Prelude.{string_bytes, vec_len, Option, Some, None};
 ghost use Rattle.bays.specs.Bays.{LeavesOtherClients};
 ghost use Rattle.command_line.specs.Commands.{IsServing, asked, serving};
 ghost use Rattle.reenc_tool.specs.Plain.{IsUnserved, Ran, ServesPlain};
-ghost use Rattle.reenc_tool.specs.Promise.{Came, Serviced};
+ghost use Rattle.reenc_tool.specs.Promise.{Came};
+ghost use Rattle.reenc_tool.specs.Servicing.{Serviced};
 ghost use Rattle.reenc_tool.specs.Outcomes.{Outcome, cause_of_fault, outcome_of, unserved};
 ghost use Rattle.reenc_tool.specs.Ending.{EndsAs};
 ghost use Rattle.reenc_tool.specs.Making.{DrawsNone};
@@ -13,6 +14,7 @@ ghost use Rattle.reenc_tool.specs.Texts.{Prints, said, sessions_in, text_of};
 ghost use Rattle.reenc_tool.specs.declared.ended.Cause.{Cause};
 
 use crate::alone::{Alone, run_alone};
+use crate::demonstrating::demonstrate;
 use crate::ended::{Cause, Ended, Failing, Fit, Sessions};
 use crate::notices::note_tail;
 use crate::opening::serve_encrypted;
@@ -131,7 +133,7 @@ where
 }
 
 /// Asks the bay for a disk, and serves sessions on it.
-fn serve<'w, R: Threads + Wait + Sync, B: Bay, G: Gate + Sync>(
+pub fn serve<'w, R: Threads + Wait + Sync, B: Bay, G: Gate + Sync>(
     rt: &R,
     alloc: Global,
     bay: &mut B,
@@ -229,6 +231,10 @@ where
         Alone::Serve(words) => {
             let ended = serve(rt, alloc, bay, &words, gate);
             print_end(alloc, out, ended, &None)
+        }
+        Alone::Demo(words) => {
+            let (ended, report) = demonstrate(rt, alloc, &words, gate);
+            print_end(alloc, out, ended, &report)
         }
     }
 }

@@ -11,6 +11,7 @@ use luks_format::FormatFault;
 use luks_rules::RuleFault;
 use luks_slots::SlotFault;
 use luks_store::StoreFault;
+use memory_disks::RamDisk;
 use nbd_session::SessionEnd;
 use reenc_recovery::OpenCause;
 use sector_disk::Disk;
@@ -301,6 +302,8 @@ pub struct Ended<'w, D: Disk, L> {
     pub header: Option<D>,
     /// The pass of the volume whose sessions were served, where some volume's were.
     pub pass: Option<Pass<D>>,
+    /// The pass of the volume in memory whose sessions `demo` served.
+    pub demo: Option<Pass<RamDisk>>,
     /// The ends of the sessions of each link, in their order; no list where none was served.
     pub sessions: Vec<Vec<SessionEnd>>,
     /// The links that the bay gave.
@@ -356,6 +359,7 @@ impl<'w, D: Disk, L> Sessions<'w, D, L> {
             disk,
             header,
             pass: Pass::of_plain(pass),
+            demo: None,
             sessions: ends,
             links,
         }
@@ -375,6 +379,7 @@ impl<'w, D: Disk, L> Ended<'w, D, L> {
         ensures links { result.links ≡ self.entry.links }
         ensures header { result.header ≡ self.entry.header }
         ensures pass { result.pass ≡ self.entry.pass }
+        ensures demo { result.demo ≡ self.entry.demo }
     {
         let Ended {
             fault,
@@ -383,6 +388,7 @@ impl<'w, D: Disk, L> Ended<'w, D, L> {
             disk,
             header,
             pass,
+            demo,
             sessions,
             links,
             ..
@@ -396,6 +402,7 @@ impl<'w, D: Disk, L> Ended<'w, D, L> {
             disk,
             header,
             pass,
+            demo,
             sessions,
             links,
         }

@@ -10,6 +10,8 @@
 
 mod alone;
 mod commands;
+mod demo_setting;
+mod demonstrating;
 mod ended;
 mod history;
 mod making;
@@ -26,7 +28,7 @@ mod volume_refusal;
 
 pub use alone::{Alone, run_alone};
 pub use bays::{Bay, BayFault, Link};
-pub use command_line::{Serve, asked_help, explain_words};
+pub use command_line::{Demo, Serve, asked_help, explain_words};
 pub use commands::run;
 pub use ended::{Cause, Ended, Failing, Fit};
 pub use header_report::FaultText;

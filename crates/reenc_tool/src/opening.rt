@@ -297,6 +297,7 @@ fn hand_back<'w, D: Disk, L>(
         disk: Some(disk),
         header,
         pass: Pass::of_encrypted(pass),
+        demo: None,
         sessions: ends,
         links,
     }
@@ -323,6 +324,7 @@ fn ended_unopened<'w, D: Disk, L>(alloc: Global, unopened: Unopened<D>) -> Ended
         disk: Some(disk),
         header,
         pass: None,
+        demo: None,
         sessions: Vec::new(alloc),
         links: Vec::new(alloc),
     }

@@ -169,6 +169,7 @@ pub fn ended_unresumed<'w, D: Disk, L>(alloc: Global, refused: Refused<D>) -> En
         disk: Some(disk),
         header,
         pass: None,
+        demo: None,
         sessions: Vec::new(alloc),
         links: Vec::new(alloc),
     }

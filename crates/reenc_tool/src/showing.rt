@@ -40,6 +40,7 @@ fn shown<'w, D: Disk, L>(
         disk: Some(disk),
         header: None,
         pass: None,
+        demo: None,
         sessions: Vec::new(alloc),
         links: Vec::new(alloc),
     };

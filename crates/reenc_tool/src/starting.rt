@@ -155,6 +155,7 @@ fn ended_unstarted<'w, D: Disk, L>(alloc: Global, unstarted: Unstarted<D>) -> En
         disk: Some(disk),
         header: None,
         pass: None,
+        demo: None,
         sessions: Vec::new(alloc),
         links: Vec::new(alloc),
     }

@@ -38,7 +38,7 @@ fn main(rt: HostRuntime) -> ExitCode {
         Ok(Some(text)) => return helped(text.as_str(), &mut out),
         Err(_) => return ended_early(&rt, rt.stderr(), ErrorKind::OutOfMemory),
     }
-    let mut bay = HostBay::new(rt, rt.stdin(), rt.stdout(), rt.stderr());
+    let mut bay = HostBay::new(rt, rt.stderr());
     let mut seeds = OsSeeds::new(rt);
     let gate = ProgressGate::new(rt, rt.stderr());
     let told = command(

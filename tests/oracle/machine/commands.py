@@ -13,6 +13,7 @@ from ..luks.keyslots import unlock
 from ..luks.header import LARGEST, CopiesDiffer, Header, NoHeader, numbered
 from ..words import Faulty, asked
 from .bay import Ended, device, failing, fault, judge, no_fit, read_header, refused
+from .demo import demo
 from .disk import Both, Failed
 
 # The bytes of the smallest sector of LUKS2.
@@ -260,7 +261,7 @@ def resume(bay, wish):
     raise Ended(0, "Fine", f"finished {volume.blocks} blocks\n")
 
 
-COMMANDS = {"format": make, "init": init, "status": status, "resume": resume}
+COMMANDS = {"format": make, "init": init, "status": status, "resume": resume, "demo": demo}
 
 
 def ended_by(bay, words):

@@ -1,3 +1,4 @@
+use Rattle.command_line.proofs.DemoLemmas.{demo_taken}
 use Rattle.command_line.proofs.FormatLemmas.{format_taken}
 use Rattle.command_line.proofs.ResumeLemmas.{resume_taken}
 use Rattle.command_line.proofs.StartLemmas.{init_taken}
@@ -18,3 +19,6 @@ returns-clause-resume c = resume_taken
 
 pub returns-clause-status : goal.returns-clause-status
 returns-clause-status c = status_taken
+
+pub returns-clause-demo : goal.returns-clause-demo
+returns-clause-demo c = demo_taken

@@ -19,3 +19,6 @@ returns-in-Ended-clause-run g c =
 
 pub returns-in-Serve-clause-run : goal.returns-in-Serve-clause-run
 returns-in-Serve-clause-run g c = (c.in-Serve.ensures.came, refl)
+
+pub returns-in-Demo-clause-run : goal.returns-in-Demo-clause-run
+returns-in-Demo-clause-run g c = (c.in-Demo.ensures.came, refl)

@@ -17,9 +17,10 @@ returns-clause-cause g c =
 pub returns-clause-rest : goal.returns-clause-rest
 returns-clause-rest g c =
     let is = c.ending_by.ensures in
-    same_outcome c.args.ended.cause _ _ _ _ _ _ _ _ _ _ _ _ _ _ _ _ (sym is.fault) (sym is.refusal)
-    (sym is.memory) (sym is.disk) (sym is.header)
+    same_outcome c.args.ended.cause _ _ _ _ _ _ _ _ _ _ _ _ _ _ _ _ _ _ (sym is.fault)
+    (sym is.refusal) (sym is.memory) (sym is.disk) (sym is.header)
     (ap (option_map (λ pass. known_by pass)) (sym is.pass))
+    (ap (option_map (λ pass. known_by pass)) (sym is.demo))
     (ap (λ links. links.items) (sym is.links))
     (ap (λ ends. map (λ list. list.items) ends.items) (sym is.sessions))
 
