@@ -19,7 +19,7 @@ help:
 
 run:
 	cd crates/reencd && \
-	rt try -- demo --seed 5 --blocks 64 --workers 4
+	rt try --seconds 600 -- demo --seed 5 --blocks 64 --workers 4
 
 build:
 	cd crates/reencd && \
