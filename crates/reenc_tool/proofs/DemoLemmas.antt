@@ -11,19 +11,18 @@ use Rattle.memory_disks.specs.declared.ram_disk.RamDisk.{RamDisk}
 use Rattle.nbd_session.specs.declared.ending.SessionEnd.{SessionEnd}
 use Rattle.sha2.specs.Sha256.{sha256}
 use Rattle.reenc_tool.specs.Demonstrating.{HasReadBack, has_disconnected}
-use Rattle.bays.specs.Bays.{Holdings}
 use Rattle.bays.specs.declared.bay.BayFault.{BayFault}
 use Rattle.bays.specs.declared.bay.BayFault.TheVariants as BayFaults
 use Rattle.command_line.specs.Formats.{Formatting}
 use Rattle.command_line.specs.Starts.{Starting}
 use Rattle.io_edge.specs.Supply.{Supply}
 use Rattle.sector_disk.specs.Devices.{Device as DiskState}
+use Rattle.reenc_tool.specs.Asking.{BayView, UnderKey}
 use Rattle.reenc_tool.specs.declared.ended.Cause.{Cause}
 use Rattle.reenc_tool.specs.declared.ended.Cause.TheVariants.{Fine}
 use Rattle.reenc_tool.specs.declared.ended.Failing.{Failing}
-use Rattle.reenc_tool.specs.Encrypted.{AsksKey, HasNoKeyFile}
-use Rattle.reenc_tool.specs.Making.{AsksForHeader, AsksForKey as KeyOfMaking, HasMade}
-use Rattle.reenc_tool.specs.Outcomes.{AsksDisk, HasNoDisk, Outcome, cause_of_fault}
+use Rattle.reenc_tool.specs.Making.{HasMade, IsOnOne, MakesBehind, wish_of}
+use Rattle.reenc_tool.specs.Outcomes.{EndsSilently, Outcome, cause_of_fault}
 use Rattle.reenc_tool.specs.Starting.{ComesToStart, HasStarted}
 
 -- where all was fine a disk is handed back
@@ -38,46 +37,42 @@ unfine failing BayFaults.Memory count cause is fine = cc
 is_some : {D : Type 0} (given : Option D) (disk : D) → given ≡ Some disk → IsSome given
 is_some given disk is = subst IsSome (sym is) refl
 
-no_disk : {B D L : Type 0} (holdings : B → Holdings D) (asks : AsksDisk B D) (name : List ℕ)
-    (atom : ℕ) (old new : B) (outcome : Outcome D L) →
-    HasNoDisk holdings asks name atom None old new outcome → HandsOn outcome
-no_disk holdings asks name atom old new outcome none fine =
-    absurd (unfine _ none.fault _ _ (ap (λ o. o.cause) none.outcome_is) fine)
+-- nothing was given
+unplaced_hands_on : {D L : Type 0} (failing : Failing) (fault : BayFault) (count : ℕ)
+    (outcome : Outcome D L) (report : Option (List ℕ)) →
+    EndsSilently None None outcome report (cause_of_fault failing fault count) → HandsOn outcome
+unplaced_hands_on failing fault count outcome report (silent, is) fine =
+    absurd (unfine failing fault count outcome.cause (ap (λ o. o.cause) is) fine)
 
-no_key : {B D L : Type 0} (holdings : B → Holdings D) (asks_key : AsksKey B) (key_file : List ℕ)
-    (disk : D) (between new : B) (outcome : Outcome D L) →
-    HasNoKeyFile holdings asks_key key_file disk None between new outcome → HandsOn outcome
-no_key holdings asks_key key_file disk between new outcome none fine =
-    is_some outcome.disk disk (ap (λ o. o.disk) none.outcome_is)
+-- a disk was handed back
+back_hands_on : {D L : Type 0} (disk : D) (header : Option D) (outcome : Outcome D L)
+    (report : Option (List ℕ)) (cause : Cause) →
+    EndsSilently (Some disk) header outcome report cause → HandsOn outcome
+back_hands_on disk header outcome report cause (silent, is) fine =
+    is_some outcome.disk disk (ap (λ o. o.disk) is)
 
 -- ---- `format` whose header lies on the disk of its data
-made_on_one : {B D L : Type 0} (device : D → DiskState) (holdings : B → Holdings D)
-    (asks_key : AsksKey B) (format : Formatting) (seed : List ℕ) (disk : D) (between new : B)
-    (outcome : Outcome D L) (report : Option (List ℕ)) →
-    KeyOfMaking device holdings asks_key format seed None disk between new outcome report →
-    HandsOn outcome
-made_on_one device holdings asks_key format seed disk between new outcome report (inl has) fine =
-    is_some outcome.disk has.ended.back (ap (λ o. o.disk) has.ended.outcome_is)
-made_on_one device holdings asks_key format seed disk between new outcome report (inr (none, unkeyed))
-    fine =
-    no_key holdings asks_key format.key_file disk between new outcome unkeyed fine
+made_on_one : {B D L : Type 0} (bay : BayView B D L) (format : Formatting) (seed : List ℕ)
+    (disk : D) (between new : B) (outcome : Outcome D L) (report : Option (List ℕ)) →
+    UnderKey bay format.key_file disk None between new outcome report
+    (λ pass. IsOnOne bay.device (wish_of format) pass seed disk outcome report) → HandsOn outcome
+made_on_one bay format seed disk between new outcome report (inl has) fine =
+    is_some outcome.disk has.came.1.back (ap (λ o. o.disk) has.came.1.outcome_is)
+made_on_one bay format seed disk between new outcome report (inr unkeyed) fine =
+    back_hands_on disk None outcome report _ unkeyed.ended fine
 
-pub made_hands_on : {B D L : Type 0} (device : D → DiskState) (holdings : B → Holdings D)
-    (asks_disk : AsksDisk B D) (asks_key : AsksKey B) (format : Formatting) (supply now : Supply)
-    (old new : B) (outcome : Outcome D L) (report : Option (List ℕ)) → format.header ≡ None →
-    HasMade device holdings asks_disk asks_key format supply now old new outcome report →
-    HandsOn outcome
-made_hands_on device holdings asks_disk asks_key format supply now old new outcome report alone
-    (inl (none, unseeded)) fine =
+pub made_hands_on : {B D L : Type 0} (bay : BayView B D L) (format : Formatting)
+    (supply now : Supply) (old new : B) (outcome : Outcome D L) (report : Option (List ℕ)) →
+    format.header ≡ None → HasMade bay format supply now old new outcome report → HandsOn outcome
+made_hands_on bay format supply now old new outcome report alone (inl (none, unseeded)) fine =
     absurd (let e = ap (λ o. o.cause) unseeded.outcome_is in cc)
-made_hands_on device holdings asks_disk asks_key format supply now old new outcome report alone
-    (inr (seed, has, inr (none, unplaced))) fine =
-    no_disk holdings asks_disk format.disk format.atom old new outcome unplaced fine
-made_hands_on device holdings asks_disk asks_key format supply now old new outcome report alone
-    (inr (seed, has, inl placed)) fine =
-    made_on_one device holdings asks_key format seed placed.disk placed.between new outcome report
-    (subst (λ (header : Option (List ℕ)). AsksForHeader device holdings asks_disk asks_key format
-    seed header placed.disk placed.between new outcome report) alone placed.ended) fine
+made_hands_on bay format supply now old new outcome report alone
+    (inr (seed, has, inr unplaced)) fine =
+    unplaced_hands_on _ unplaced.fault _ outcome report unplaced.ended fine
+made_hands_on bay format supply now old new outcome report alone (inr (seed, has, inl placed)) fine =
+    made_on_one bay format seed placed.given placed.between new outcome report
+    (subst (λ (header : Option (List ℕ)). MakesBehind bay format seed header placed.given
+    placed.between new outcome report) alone placed.came) fine
 
 -- ---- `init`
 started_on : {D L : Type 0} (device : D → DiskState) (words : Starting) (pass seed : List ℕ)
@@ -87,25 +82,20 @@ started_on device words pass seed disk outcome report (inl started) fine =
     is_some outcome.disk started.back (ap (λ o. o.disk) started.outcome_is)
 started_on device words pass seed disk outcome report (inr (inl unstarted)) fine =
     is_some outcome.disk unstarted.back (ap (λ o. o.disk) unstarted.outcome_is)
-started_on device words pass seed disk outcome report (inr (inr (none, untold))) fine =
-    is_some outcome.disk disk (ap (λ o. o.disk) untold)
+started_on device words pass seed disk outcome report (inr (inr untold)) fine =
+    back_hands_on disk None outcome report _ untold fine
 
-pub started_hands_on : {B D L : Type 0} (device : D → DiskState) (holdings : B → Holdings D)
-    (asks_disk : AsksDisk B D) (asks_key : AsksKey B) (words : Starting) (supply now : Supply)
-    (old new : B) (outcome : Outcome D L) (report : Option (List ℕ)) →
-    HasStarted device holdings asks_disk asks_key words supply now old new outcome report →
-    HandsOn outcome
-started_hands_on device holdings asks_disk asks_key words supply now old new outcome report
-    (inl (none, unseeded)) fine =
+pub started_hands_on : {B D L : Type 0} (bay : BayView B D L) (words : Starting)
+    (supply now : Supply) (old new : B) (outcome : Outcome D L) (report : Option (List ℕ)) →
+    HasStarted bay words supply now old new outcome report → HandsOn outcome
+started_hands_on bay words supply now old new outcome report (inl (none, unseeded)) fine =
     absurd (let e = ap (λ o. o.cause) unseeded.outcome_is in cc)
-started_hands_on device holdings asks_disk asks_key words supply now old new outcome report
-    (inr (seed, has, inr (none, unplaced))) fine =
-    no_disk holdings asks_disk words.disk words.atom old new outcome unplaced fine
-started_hands_on device holdings asks_disk asks_key words supply now old new outcome report
-    (inr (seed, has, inl placed)) fine =
-    ⊎_elim (λ key. started_on device words key.pass seed placed.disk outcome report key.ended fine)
-    (λ unkeyed. no_key holdings asks_key words.key_file placed.disk placed.between new outcome
-    unkeyed.1 fine) placed.ended
+started_hands_on bay words supply now old new outcome report (inr (seed, has, inr unplaced)) fine =
+    unplaced_hands_on _ unplaced.fault _ outcome report unplaced.ended fine
+started_hands_on bay words supply now old new outcome report (inr (seed, has, inl placed)) fine =
+    ⊎_elim
+    (λ key. started_on bay.device words key.given seed placed.given outcome report key.came.1 fine)
+    (λ unkeyed. back_hands_on placed.given None outcome report _ unkeyed.ended fine) placed.came
 
 -- ---- what the clients read
 all_mapped : {E : Type 0} (P : List E → Bool) (lists : List (Vec E Global))

@@ -29,7 +29,7 @@ use Rattle.sector_disk.specs.Devices.{Device as DiskState}
 use Rattle.volume_opening.specs.Refusals.{AreOf}
 use Rattle.reenc_tool.specs.Making.{ComesTo, IsMade, IsOnTwo, cause_of_writing}
 use Rattle.reenc_tool.specs.Making.{report_of_writing, sizes_behind, wish_of}
-use Rattle.reenc_tool.specs.Outcomes.{Coming, Outcome, ended_by, none_came}
+use Rattle.reenc_tool.specs.Outcomes.{Coming, Outcome, ended_by, ended_with, none_came}
 use Rattle.reenc_tool.specs.declared.ended.Cause.{Cause}
 
 -- ---- the wish of the words
@@ -147,7 +147,7 @@ is_made device words sizes pass seed disk back volume result cause report ready 
 pub ended_without : {D L : Type 0} (cause : Cause) (came : Coming L) (links : List L)
     (disk header : Option D) (outcome : Outcome D L) → outcome ≡ ended_by came disk header →
     came ≡ none_came cause links → links ≡ [] →
-    outcome ≡ ended_by (none_came cause []) disk header
+    outcome ≡ ended_with cause disk header
 ended_without cause came links disk header outcome is none no_links =
     is ∙ ap (λ c. ended_by c disk header) (none ∙ ap (none_came cause) no_links)
 
@@ -182,7 +182,7 @@ pub is_on_two : {D L X : Type 0} (device : D → DiskState) (see : X → Joint) 
     sizes ≡ sizes_behind (device head) (device disk) →
     ComesTo (λ x. joined_disk (see x)) wish sizes pass seed joined after cause report →
     AreOf device (see after) header back →
-    outcome ≡ ended_by (none_came cause []) (Some back) header →
+    outcome ≡ ended_with cause (Some back) header →
     IsOnTwo device wish pass seed head disk outcome report
 is_on_two {D} {L} device see wish sizes pass seed head disk joined after header back cause outcome
     report begun are came parts is =
@@ -200,5 +200,5 @@ is_on_two {D} {L} device see wish sizes pass seed head disk joined after header 
           (subst (λ (s : Sizes).
           ComesTo joined_disk wish s pass seed (see joined) (see after) cause report) are seen));
       outcome_is = is
-          ∙ ap (λ (o : Outcome D L). ended_by (none_came o.cause []) (Some back) header) (sym is);
+          ∙ ap (λ (o : Outcome D L). ended_with {D = D} {L = L} o.cause (Some back) header) (sym is);
     }

@@ -17,9 +17,10 @@ use Rattle.sector_disk.specs.Devices.{Device as DiskState}
 use Rattle.recovery_laws.specs.Served.Serving.{FoundKeysStand}
 use Rattle.volume_opening.specs.Openings.{alone}
 use Rattle.reenc_tool.specs.Kept.{KeepsRefused, KeepsVain, KnowsKeys, KnowsRefused}
-use Rattle.reenc_tool.specs.Outcomes.{Outcome}
-use Rattle.reenc_tool.specs.Resuming.{ended_unresumed}
+use Rattle.reenc_tool.specs.Outcomes.{Outcome, ended_refused}
+use Rattle.reenc_tool.specs.Status.{cause_of_resume}
 use Rattle.reenc_tool.specs.TakenUp.{HasNoConversion}
+use Rattle.reenc_tool.specs.declared.volume_refusal.VolumeRefusal.TheVariants.{Resuming}
 
 -- the laws that this stands on
 pub record RefusedLaws {C : Type 0} (sector : C → ℕ) (sealed opened : C → ℕ → List ℕ → List ℕ)
@@ -80,7 +81,8 @@ module _ {B D L : Type 0} {sector : DiskCipher Aes → ℕ}
   where
     pub not-taken-up : ((first : List ℕ) → (device disk).values ≡ Some first → refusal ≢ refusals.Idle)
         × IsRefusedBy sector sealed opened device disk pass refusal header back
-        → outcome ≡ ended_unresumed refusal header back (device back).faults
+        → outcome ≡ ended_refused (cause_of_resume refusal (device back).faults)
+        (Some (Resuming refusal)) header back
         → HasNoConversion device pass disk between between outcome
     not-taken-up (other, refused) is = record {
       sector = sector;

@@ -17,9 +17,10 @@ use Rattle.reenc_tool.proofs.KeptLemmas.{KeptLaws, holds-new, keeps-run, knows-r
 use Rattle.reenc_tool.proofs.KeptLemmas.{stands-at-stops}
 use Rattle.reenc_tool.proofs.RefusedLemmas.{RefusedLaws, keeps-refused, knows-refused}
 use Rattle.reenc_tool.specs.declared.ended.Cause.TheVariants.{Fine}
-use Rattle.reenc_tool.specs.Outcomes.{Outcome, ended_by, none_came}
-use Rattle.reenc_tool.specs.Resuming.{ComesToResume, ended_unresumed, finished_line}
-use Rattle.reenc_tool.specs.Status.{cause_of_end}
+use Rattle.reenc_tool.specs.Outcomes.{Outcome, ended_refused, ended_with}
+use Rattle.reenc_tool.specs.Resuming.{ComesToResume, finished_line}
+use Rattle.reenc_tool.specs.Status.{cause_of_end, cause_of_resume}
+use Rattle.reenc_tool.specs.declared.volume_refusal.VolumeRefusal.TheVariants.{Resuming}
 
 module _ {D L : Type 0} (sector : DiskCipher Aes → ℕ)
     (sealed opened : DiskCipher Aes → ℕ → List ℕ → List ℕ) (device : D → DiskState)
@@ -28,7 +29,7 @@ module _ {D L : Type 0} (sector : DiskCipher Aes → ℕ)
     (geometry : IsDisk (device disk).size (device disk).atoms) where
   pub is_finished : (blocks : ℕ) (line : List ℕ) →
       IsFinishedBy sector sealed opened device disk pass header back blocks →
-      outcome ≡ ended_by (none_came Fine []) (Some back) header → line ≡ finished_line blocks →
+      outcome ≡ ended_with Fine (Some back) header → line ≡ finished_line blocks →
       ComesToResume device pass disk outcome (Some line)
   is_finished blocks line finished is line_is = inl (record {
     sector = sector;
@@ -51,7 +52,7 @@ module _ {D L : Type 0} (sector : DiskCipher Aes → ℕ)
 
   pub is_halted : (end : WorkerEnd) →
       IsHaltedBy sector sealed opened device disk pass end header back →
-      outcome ≡ ended_by (none_came (cause_of_end end (device back).faults) []) (Some back) header →
+      outcome ≡ ended_with (cause_of_end end (device back).faults) (Some back) header →
       ComesToResume device pass disk outcome None
   is_halted end halted is = inr (inl (record {
     sector = sector;
@@ -80,7 +81,8 @@ module _ {D L : Type 0} (sector : DiskCipher Aes → ℕ)
   where
     pub is_refused : (refusal : Refusal) →
         IsRefusedBy sector sealed opened device disk pass refusal header back →
-        outcome ≡ ended_unresumed refusal header back (device back).faults →
+        outcome ≡ ended_refused (cause_of_resume refusal (device back).faults)
+        (Some (Resuming refusal)) header back →
         ComesToResume device pass disk outcome None
     is_refused refusal refused is = inr (inr (inl (record {
       sector = sector;

@@ -1,12 +1,12 @@
 -- A command of its parts.
-use Rattle.std.proofs.Common.{◌≡◌, ℕ, ◌+◌, ◌*◌, ◌<◌, ◌≤◌, ⊎_elim, le_trans, Bool}
-use Rattle.std.proofs.Common.{inl, inr, zero, suc, List, length, slice_index_or, replicate}
+use Rattle.std.proofs.Common.{◌≡◌, ◌⊎◌, ℕ, ◌+◌, ◌*◌, ◌<◌, ◌≤◌, ⊎_elim, le_trans, Bool}
+use Rattle.std.proofs.Common.{inl, inr, zero, suc, List, [], length, slice_index_or, replicate}
 use Rattle.std.proofs.Common.{Option, None, Some, ap, ◌∙◌, sym, subst, arith, suc-mul}
 use Rattle.std.specs.Prelude.{IsSome}
 use Rattle.base_terms.specs.Blocks.{lengths}
-use Rattle.bays.specs.Bays.{AreBounded, Holdings, IsShare, LeavesAll, LeavesOtherDisks}
-use Rattle.bays.specs.Bays.{LeavesOtherClients}
+use Rattle.bays.specs.Bays.{AreBounded, IsShare}
 use Rattle.bays.specs.Stories.{LinkState}
+use Rattle.bays.specs.declared.bay.BayFault.{BayFault}
 use Rattle.nbd_session.specs.declared.ending.SessionEnd.{SessionEnd}
 use Rattle.cipher_laws.specs.Bytes.{AreBytes}
 use Rattle.sector_disk.specs.Cells.{AreSettled, content, currents}
@@ -23,11 +23,12 @@ use Rattle.volume_machine.specs.States.{State}
 use Rattle.volume_machine.specs.Works.{Work}
 use Rattle.recovery_laws.specs.Served.Clients.{without_work}
 use Rattle.reenc_tool.specs.declared.ended.Cause.{Cause}
-use Rattle.reenc_tool.specs.Outcomes.{Coming, Outcome, unserved}
+use Rattle.reenc_tool.specs.declared.ended.Failing.{Failing}
+use Rattle.reenc_tool.specs.Asking.{BayView, GivesLast, Wanted}
+use Rattle.reenc_tool.specs.Outcomes.{Coming, Outcome, cause_of_fault, ended_with, unserved}
 use Rattle.reenc_tool.specs.Plain.{IsPlainVolume}
-use Rattle.reenc_tool.specs.Encrypted.{AsksKey, HandsBack, RanOver}
-use Rattle.reenc_tool.specs.Linking.{AsksLinks, IsLinked}
-use Rattle.reenc_tool.specs.Servicing.{LeavesRest, ServesBy}
+use Rattle.reenc_tool.specs.Encrypted.{HandsBack, RanOver}
+use Rattle.reenc_tool.specs.Servicing.{ServesBy}
 use Rattle.reenc_tool.specs.Runs.{HasServed, VolumeKeys}
 use Rattle.reenc_tool.specs.Volumes.{IsServedAs, RanAs}
 use Rattle.luks_store.specs.declared.fault.StoreFault.{StoreFault}
@@ -94,24 +95,6 @@ plain_certain start tells bytes before values was settled other is =
       tells.even other is,
     )
 
--- what a command left that asked for a disk, and then perhaps for links
-pub leaves_rest : {D : Type 0} (serve : Serving) (old mid new : Holdings D) →
-    LeavesOtherDisks serve.disk old mid →
-    LeavesOtherClients serve.address mid new → LeavesRest serve old new
-leaves_rest serve old mid new first then = record {
-  disks = λ other differ. ap (λ shelf. shelf other) then.disks ∙ first.disks other differ;
-  keys = then.keys ∙ first.keys;
-  clients = λ other differ. then.clients other differ ∙ ap (λ inputs. inputs other) first.clients;
-}
-
-pub leaves_all : {D : Type 0} (serve : Serving) (old new : Holdings D) → LeavesAll old new →
-    LeavesRest serve old new
-leaves_all serve old new leaves = record {
-  disks = λ other differ. ap (λ shelf. shelf other) leaves.disks;
-  keys = leaves.keys;
-  clients = λ other differ. ap (λ inputs. inputs other) leaves.clients;
-}
-
 -- a link's share of the sessions is no more than these
 share_few : (workers sessions k count : ℕ) → 0 < workers → IsShare workers sessions k count →
     count ≤ sessions
@@ -132,9 +115,15 @@ pub links_few : {L : Type 0} (state : L → LinkState) (workers sessions : ℕ) 
 links_few state workers sessions links bounded some count few k link inside =
     le_trans (share_few workers sessions k _ some (bounded k link (omega (arith, count)))) few
 
--- what is handed back without a session, by its links
-abbrev pub unserved_of : {D L : Type 0} → Cause → Option D → List L → Outcome D L
-unserved_of cause disk links = unserved cause disk links
+-- what is handed back where nothing was given of what was asked for
+pub ended_so : {D L : Type 0} (failing : Failing) (fault : BayFault) (cause : Cause)
+    (disk : Option D) (links : List L) (count faults : ℕ) (outcome : Outcome D L) →
+    outcome ≡ unserved cause disk links → links ≡ [] → cause ≡ cause_of_fault failing fault count →
+    count ≡ faults → outcome ≡ ended_with (cause_of_fault failing fault faults) disk None
+ended_so {D} {L} failing fault cause disk links count faults outcome is none cause_is count_is =
+    is ∙ ap (λ (l : List L). unserved cause disk l) none
+    ∙ ap (λ (c : Cause). unserved {D = D} {L = L} c disk [])
+    (cause_is ∙ ap (λ (n : ℕ). cause_of_fault failing fault n) count_is)
 
 abbrev pub handed_back : {D L : Type 0} → Cause → Option StoreFault → Option VolumeRefusal → Bool →
     Option D → Option D → Option (Knowing Context) → Option (Knowing Context) → List L →
@@ -197,15 +186,12 @@ handed {D} {L} device shown shown' came came' outcome shows comes back =
     (subst (λ (c : Coming L). HandsBack device shown c outcome) comes back)
 
 -- what came of a disk, by the key file that the words name
-pub by_key_file : {B D L : Type 0} (device : D → Device) (state : L → LinkState)
-    (holdings : B → Holdings D) (asks_key : AsksKey B) (asks_links : AsksLinks B L)
-    (serve : Serving) (disk : D) (between new : B) (outcome : Outcome D L)
-    (key_file : Option (List ℕ)) → serve.key_file ≡ key_file →
-    ServesBy device state holdings asks_key asks_links serve key_file disk between new outcome →
-    ServesBy device state holdings asks_key asks_links serve serve.key_file disk between new outcome
-by_key_file device state holdings asks_key asks_links serve disk between new outcome key_file is =
-    subst (λ (k : Option (List ℕ)).
-    ServesBy device state holdings asks_key asks_links serve k disk between new outcome) (sym is)
+pub by_key_file : {B D L : Type 0} (bay : BayView B D L) (serve : Serving) (disk : D)
+    (between new : B) (outcome : Outcome D L) (key_file : Option (List ℕ)) →
+    serve.key_file ≡ key_file → ServesBy bay serve key_file disk between new outcome →
+    ServesBy bay serve serve.key_file disk between new outcome
+by_key_file bay serve disk between new outcome key_file is =
+    subst (λ (k : Option (List ℕ)). ServesBy bay serve k disk between new outcome) (sym is)
 
 -- a volume that was opened by a passphrase was opened by it under another name
 pub opened_under : {C : Type 0} (sector : C → ℕ) (sealed opened : C → ℕ → List ℕ → List ℕ)
@@ -272,18 +258,21 @@ ran_as_it_is device state converts start seals begun outcome fresh ran = record 
 }
 
 -- what came over links is this where it is that
-pub linked_so : {B D L : Type 0} (state : L → LinkState) (holdings : B → Holdings D)
-    (asks_links : AsksLinks B L) (serve : Serving) (between new : B)
-    (Ends : Cause → List L → Type 0) (Was Is : List L → Type 0) →
-    ((begun : List L) → Was begun → Is begun) →
-    IsLinked state holdings asks_links serve between new Ends Was →
-    IsLinked state holdings asks_links serve between new Ends Is
-linked_so state holdings asks_links serve between new Ends Was Is so linked =
-    ⊎_elim (λ none. inl none)
-    (λ has. inr (record {
-      begun = has.begun;
-      asked = has.asked;
-      stood = has.stood;
-      given = has.given;
-      came = ⊎_elim (λ served. inl (so has.begun served)) (λ ended. inr ended) has.came;
-    })) linked
+pub linked_so : {B D L A : Type 0} (bay : BayView B D L) (wanted : Wanted B D A) (old new : B)
+    (Ends : Cause → Type 0) (Was Is Without : A → Type 0) →
+    GivesLast bay wanted old new (λ given. Was given ⊎ Without given) Ends →
+    ((given : A) → Was given → Is given) →
+    GivesLast bay wanted old new (λ given. Is given ⊎ Without given) Ends
+linked_so bay wanted old new Ends Was Is Without (inl has) so = inl (record {
+  given = has.given;
+  between = has.between;
+  asked = has.asked;
+  is = has.is;
+  stood = has.stood;
+  leaves = has.leaves;
+  came = (
+    has.came.0,
+    ⊎_elim (λ was. inl (so has.given was)) (λ without. inr without) has.came.1,
+  );
+})
+linked_so bay wanted old new Ends Was Is Without (inr none) so = inr none

@@ -1,5 +1,5 @@
 -- The conversion that words wish, and what came of it.
-use Rattle.std.proofs.Common.{◌≡◌, ◌≤◌, ℕ, List, Some, None, [], ap, arith, inl, inr}
+use Rattle.std.proofs.Common.{◌≡◌, ◌≤◌, ℕ, List, Some, None, ap, arith, inl, inr}
 use Rattle.std.proofs.Common.{refl, subst}
 use Rattle.command_line.specs.Starts.{IsStarting, Starting}
 use Rattle.luks_init.specs.DiskInit.Answers.{IsStartedBy, IsUnstartedBy}
@@ -8,8 +8,9 @@ use Rattle.luks_init.specs.Wishes.{IsWish}
 use Rattle.luks_init.specs.declared.wish.Wish.{Wish}
 use Rattle.sector_disk.specs.Devices.{Device as DiskState}
 use Rattle.reenc_tool.specs.declared.ended.Cause.TheVariants.{Fine}
-use Rattle.reenc_tool.specs.Outcomes.{Outcome, ended_by, none_came}
-use Rattle.reenc_tool.specs.Starting.{ComesToStart, ended_unstarted, started_line, wish_of}
+use Rattle.reenc_tool.specs.Outcomes.{Outcome, ended_refused, ended_with}
+use Rattle.reenc_tool.specs.Starting.{ComesToStart, opening_refusal, started_line, wish_of}
+use Rattle.reenc_tool.specs.Status.{cause_of_start}
 use Rattle.reenc_tool.proofs.MakingLemmas.{key_length}
 
 pub is_wish : (words : Starting) → IsStarting words → IsWish (wish_of words) words.atom
@@ -29,7 +30,7 @@ is_wish words is =
 pub is_started : {D L : Type 0} (device : D → DiskState) (words : Starting) (wish : Wish)
     (pass seed : List ℕ) (disk back : D) (outcome : Outcome D L) (line : List ℕ) →
     wish ≡ wish_of words → IsStartedBy device disk wish pass seed back →
-    outcome ≡ ended_by (none_came Fine []) (Some back) None → line ≡ started_line words →
+    outcome ≡ ended_with Fine (Some back) None → line ≡ started_line words →
     ComesToStart device words pass seed disk outcome (Some line)
 is_started device words wish pass seed disk back outcome line wish_is started is line_is =
     inl (record {
@@ -42,7 +43,8 @@ is_started device words wish pass seed disk back outcome line wish_is started is
 pub is_unstarted : {D L : Type 0} (device : D → DiskState) (words : Starting) (wish : Wish)
     (pass seed : List ℕ) (disk back : D) (refusal : Refusal) (outcome : Outcome D L) →
     wish ≡ wish_of words → IsUnstartedBy device disk wish pass seed refusal back →
-    outcome ≡ ended_unstarted refusal back (device back).faults →
+    outcome ≡ ended_refused (cause_of_start refusal (device back).faults) (opening_refusal refusal)
+    None back →
     ComesToStart device words pass seed disk outcome None
 is_unstarted device words wish pass seed disk back refusal outcome wish_is refused is =
     inr (inl (record {

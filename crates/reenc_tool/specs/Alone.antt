@@ -1,6 +1,5 @@
 -- What words did that were executed without clients.
-use Rattle.std.specs.Prelude.{ℕ, ◌≡◌, ◌⊎◌, List, [], map, Option, Some, None, string_bytes}
-use Rattle.bays.specs.Bays.{Holdings}
+use Rattle.std.specs.Prelude.{ℕ, ◌≡◌, ◌⊎◌, List, map, Option, Some, None, string_bytes}
 use Rattle.command_line.specs.Commands.{Asked, IsBounded, Showing, asked, demonstrates, formats}
 use Rattle.command_line.specs.Commands.{resumes, serves, serving, shows, starts}
 use Rattle.command_line.specs.Demonstrations.{demonstrating}
@@ -8,14 +7,13 @@ use Rattle.command_line.specs.Formats.{Formatting}
 use Rattle.command_line.specs.Resumes.{Resuming}
 use Rattle.command_line.specs.Starts.{Starting}
 use Rattle.io_edge.specs.Supply.{Supply}
-use Rattle.sector_disk.specs.Devices.{Device as DiskState}
+use Rattle.reenc_tool.specs.Asking.{BayView}
 use Rattle.reenc_tool.specs.declared.alone.Alone.{Alone}
 use Rattle.reenc_tool.specs.declared.alone.Alone.TheVariants as alones
 use Rattle.reenc_tool.specs.declared.ended.Cause.{Cause}
 use Rattle.reenc_tool.specs.declared.ended.Cause.TheVariants.{Usage, Memory}
-use Rattle.reenc_tool.specs.Encrypted.{AsksKey}
 use Rattle.reenc_tool.specs.Making.{HasMade}
-use Rattle.reenc_tool.specs.Outcomes.{AsksDisk, Outcome, unserved}
+use Rattle.reenc_tool.specs.Outcomes.{Outcome, ended_with}
 use Rattle.reenc_tool.specs.Resuming.{HasResumed}
 use Rattle.reenc_tool.specs.Showing.{HasShown}
 use Rattle.reenc_tool.specs.Starting.{HasStarted}
@@ -28,21 +26,20 @@ KeepsWords words _ = ⊥
 -- What a command did whose words were read, or not, and that serves no client: it was told to show, to
 -- format, to begin a conversion or to lead one to its end, which its report belongs to; or nothing was
 -- asked of the bay and of the seeds, since the words ask for nothing or memory was wanted.
-abbrev pub CameAlone : {B D L : Type 0} → (D → DiskState) → (B → Holdings D) → AsksDisk B D →
-    AsksDisk B D → AsksKey B → List (List ℕ) → Supply → Supply → B → B → Outcome D L →
-    Option (List ℕ) → Type 0
-CameAlone device holdings asks_disk asks_reading asks_key words supply now old new outcome report =
+abbrev pub CameAlone : {B D L : Type 0} → BayView B D L → List (List ℕ) → Supply → Supply → B → B
+    → Outcome D L → Option (List ℕ) → Type 0
+CameAlone bay words supply now old new outcome report =
     ((asked words ≡ None) × KeepsWords words outcome.cause
-    × (outcome ≡ unserved outcome.cause None []) × (new ≡ old) × (report ≡ None))
-    ⊎ ((outcome ≡ unserved Memory None []) × (new ≡ old) × (now ≡ supply) × (report ≡ None))
+    × (outcome ≡ ended_with outcome.cause None None) × (new ≡ old) × (report ≡ None))
+    ⊎ ((outcome ≡ ended_with Memory None None) × (new ≡ old) × (now ≡ supply) × (report ≡ None))
     ⊎ ((show : Showing) × (asked words ≡ Some (shows show))
-    × HasShown device holdings asks_reading show old new outcome report)
+    × HasShown bay show old new outcome report)
     ⊎ ((format : Formatting) × (asked words ≡ Some (formats format))
-    × HasMade device holdings asks_disk asks_key format supply now old new outcome report)
+    × HasMade bay format supply now old new outcome report)
     ⊎ ((start : Starting) × (asked words ≡ Some (starts start))
-    × HasStarted device holdings asks_disk asks_key start supply now old new outcome report)
+    × HasStarted bay start supply now old new outcome report)
     ⊎ ((resume : Resuming) × (asked words ≡ Some (resumes resume)) × (now ≡ supply)
-    × HasResumed device holdings asks_disk asks_key resume old new outcome report)
+    × HasResumed bay resume old new outcome report)
 
 -- ---- commands without clients, and the words of those with them
 -- a command came to its end, of which the one holds; or what it says is handed back, of which the other

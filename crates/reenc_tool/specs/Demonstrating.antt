@@ -25,9 +25,10 @@ use Rattle.nbd_session.specs.declared.ending.SessionEnd.{SessionEnd}
 use Rattle.nbd_stream.specs.declared.ending.Ending.{Ending}
 use Rattle.nbd_stream.specs.declared.ending.Ending.TheVariants.{Disconnected}
 use Rattle.sha2.specs.Sha256.{sha256}
+use Rattle.reenc_tool.specs.Asking.{BayView, bay_view}
 use Rattle.reenc_tool.specs.declared.ended.Cause.TheVariants.{Fine, Memory}
 use Rattle.reenc_tool.specs.Making.{HasMade}
-use Rattle.reenc_tool.specs.Outcomes.{Outcome, unserved}
+use Rattle.reenc_tool.specs.Outcomes.{EndsSilently, Outcome}
 use Rattle.reenc_tool.specs.Servicing.{Serviced}
 use Rattle.reenc_tool.specs.Starting.{HasStarted}
 
@@ -88,6 +89,11 @@ seed_bytes seed more = map (λ i. (seed_byte seed i + more) % 256) (range_with_l
 pub record IsDemoSupply (seed more : ℕ) (supply : Supply) : Type 0 where
   pub ahead : (k : ℕ) → supply.ahead k ≡ Some (slice_index (seed_bytes seed more) (k % 256))
   pub faults : supply.faults ≡ 0
+
+-- its bay, as its commands see it
+abbrev pub demo_view : BayView Supplies RamDisk Line
+demo_view = bay_view ram_device client_state demo_holdings asks_demo_disk asks_demo_disk
+    asks_demo_key asks_demo_links
 
 -- A bay with a disk of atoms of 512 bytes, all zero, which has room for so many behind the first
 -- 1048576 bytes; with the passphrase; and with the clients, each of which was not served yet.
@@ -175,8 +181,7 @@ pub record HasServedClients {D L : Type 0} (demo : Demonstrating) (outcome : Out
     (report : Option (List ℕ)) (old : Supplies) : Type 0 where
   pub new : Supplies
   pub served : Outcome RamDisk Line
-  pub is : Serviced ram_device client_state demo_holdings asks_demo_disk asks_demo_key asks_demo_links
-      (demo_serving demo.workers) old new served None
+  pub is : Serviced demo_view (demo_serving demo.workers) old new served None
   pub concludes : Concludes demo served outcome report
 
 -- Its conversion was begun, by these random bytes, and where it was the volume was served.
@@ -188,8 +193,7 @@ pub record HasBegun {D L : Type 0} (demo : Demonstrating) (outcome : Outcome D L
   pub new : Supplies
   pub started : Outcome RamDisk Line
   pub said : Option (List ℕ)
-  pub is : HasStarted ram_device demo_holdings asks_demo_disk asks_demo_key demo_starting supply now
-      old new started said
+  pub is : HasStarted demo_view demo_starting supply now old new started said
   pub later : EndsEarly started outcome report
       ⊎ GoesOn started new (HasServedClients demo outcome report)
 
@@ -202,13 +206,12 @@ pub record HasFormatted {D L : Type 0} (demo : Demonstrating) (outcome : Outcome
   pub new : Supplies
   pub made : Outcome RamDisk Line
   pub said : Option (List ℕ)
-  pub is : HasMade ram_device demo_holdings asks_demo_disk asks_demo_key demo_formatting supply now
-      old new made said
+  pub is : HasMade demo_view demo_formatting supply now old new made said
   pub later : EndsEarly made outcome report ⊎ GoesOn made new (HasBegun demo outcome report)
 
 -- What `demo` did: memory was wanted for its bay; or that was made, and a volume on its disk.
 abbrev pub HasDemonstrated : {D L : Type 0} → Demonstrating → Outcome D L → Option (List ℕ) →
     Type 0
 HasDemonstrated demo outcome report =
-    ((report ≡ None) × (outcome ≡ unserved Memory None []))
+    EndsSilently None None outcome report Memory
     ⊎ ((bay : Supplies) × IsDemoBay demo bay × HasFormatted demo outcome report bay)

@@ -1,9 +1,6 @@
 -- What `serve` did on an encrypted volume.
-use Rattle.std.specs.Prelude.{ℕ, ◌≡◌, ◌≢◌, ◌+◌, ◌<◌, false, List, [], length, Option, Some, None}
-use Rattle.std.specs.Prelude.{Result, Err}
+use Rattle.std.specs.Prelude.{ℕ, ◌≡◌, ◌≢◌, ◌+◌, ◌<◌, List, length, Option, Some}
 use Rattle.aes_core.specs.declared.cipher.Aes.{Aes}
-use Rattle.bays.specs.Bays.{FaultCounts, Holdings, LeavesAll}
-use Rattle.bays.specs.declared.bay.BayFault.{BayFault}
 use Rattle.bays.specs.Stories.{LinkState}
 use Rattle.command_line.specs.Commands.{Serving}
 use Rattle.header_report.specs.Examinations.{sizes_alone}
@@ -21,17 +18,12 @@ use Rattle.volume_opening.specs.Stops.{StandsAlong}
 use Rattle.volume_opening.specs.declared.refusal.Refusal.{Refusal}
 use Rattle.volume_opening.specs.declared.refusal.Refusal.TheVariants.{InProgress}
 use Rattle.reenc_tool.specs.declared.ended.Cause.TheVariants.{Fine}
-use Rattle.reenc_tool.specs.declared.ended.Failing.TheVariants.{Keying}
 use Rattle.reenc_tool.specs.declared.volume_refusal.VolumeRefusal.TheVariants.{Opening}
-use Rattle.reenc_tool.specs.Linking.{AsksLinks, IsLinked}
-use Rattle.reenc_tool.specs.Outcomes.{Coming, Outcome, cause_of_fault, ended_by, none_came}
+use Rattle.reenc_tool.specs.Asking.{BayView, IsLinked}
+use Rattle.reenc_tool.specs.Outcomes.{Coming, Outcome, ended_by, ended_refused, none_came}
 use Rattle.reenc_tool.specs.Runs.{HasServed, VolumeKeys}
 use Rattle.reenc_tool.specs.Sessions.{most_events}
 use Rattle.reenc_tool.specs.Status.{cause_of_refusal}
-
--- what asking a bay for a key file does, by its name and the answer
-abbrev pub AsksKey : Type 0 → Type 1
-AsksKey B = B → List ℕ → Result (List ℕ) BayFault → B → Type 0
 
 -- ---- what is handed back
 -- The disks of a volume are handed back, which as one show this, with what came of sessions; one
@@ -65,44 +57,30 @@ pub record RanOver {D L : Type 0} (device : D → DiskState) (state : L → Link
 -- under the passphrase and by a header that converts nothing, for the newest values that clients
 -- gave: those that the operations of its sessions leave on the plain disk that held for certain what
 -- the disk stood for.
-pub record HasOpenedVolume {B D L : Type 0} (device : D → DiskState) (state : L → LinkState)
-    (holdings : B → Holdings D) (asks_links : AsksLinks B L) (serve : Serving) (pass : List ℕ)
+pub record HasOpenedVolume {B D L : Type 0} (bay : BayView B D L) (serve : Serving) (pass : List ℕ)
     (disk : D) (between new : B) (outcome : Outcome D L) : Type 0 where
   pub sector : DiskCipher Aes → ℕ
   pub sealed : DiskCipher Aes → ℕ → List ℕ → List ℕ
   pub opened : DiskCipher Aes → ℕ → List ℕ → List ℕ
   pub start : State VolumeKeys
-  pub volume : IsOpenedBy sector sealed opened (device disk) pass (serve.workers + 1) start
-  pub stands : (first : List ℕ) → (device disk).values ≡ Some first
+  pub volume : IsOpenedBy sector sealed opened (bay.device disk) pass (serve.workers + 1) start
+  pub stands : (first : List ℕ) → (bay.device disk).values ≡ Some first
       → (run : List (Happening VolumeKeys)) → IsRun start run
-      → StandsAlong (sizes_alone (device disk)) pass start
+      → StandsAlong (sizes_alone (bay.device disk)) pass start
       (seals_of sealed opened start.map.atom start.keys) run
-  pub at_rest : (first : List ℕ) → (told : (device disk).values ≡ Some first) → (begun : List L)
-      → (ran : RanOver device state start (seals_of sealed opened start.map.atom start.keys) begun
-      outcome) → ran.came.cause ≡ Fine → length ran.served.run < most_events
-      → StandsForNewest (sizes_alone (device disk)) pass start.map.atom
+  pub at_rest : (first : List ℕ) → (told : (bay.device disk).values ≡ Some first)
+      → (begun : List L)
+      → (ran : RanOver bay.device bay.state start
+      (seals_of sealed opened start.map.atom start.keys) begun outcome) → ran.came.cause ≡ Fine
+      → length ran.served.run < most_events
+      → StandsForNewest (sizes_alone (bay.device disk)) pass start.map.atom
       (volume.starts first told).content (untagged ran.served.operations) ran.left
-  pub linked : IsLinked state holdings asks_links serve between new
-      (λ cause links. HandsBack device start.disk (none_came cause links) outcome)
-      (λ begun. RanOver device state start
+  pub linked : IsLinked bay serve between new
+      (λ cause links. HandsBack bay.device start.disk (none_came cause links) outcome)
+      (λ begun. RanOver bay.device bay.state start
       (seals_of sealed opened start.map.atom start.keys) begun outcome)
 
 -- ---- no volume
--- what a command hands back that opened no volume, of whose disk so many calls failed
-abbrev pub ended_unopened : {D L : Type 0} → Refusal → Option D → D → ℕ → Outcome D L
-ended_unopened refusal header disk faults = record {
-  cause = cause_of_refusal refusal faults;
-  fault = None;
-  refusal = Some (Opening refusal);
-  memory = false;
-  disk = Some disk;
-  header = header;
-  pass = None;
-  demo = None;
-  links = [];
-  ends = [];
-}
-
 -- No volume was opened, which comes before the links are asked for; and not for the reason that a
 -- conversion is under way. The disk is handed back, and so many of its calls failed.
 pub record HasNoVolume {B D L : Type 0} (device : D → DiskState) (pass : List ℕ) (disk : D)
@@ -113,17 +91,6 @@ pub record HasNoVolume {B D L : Type 0} (device : D → DiskState) (pass : List 
   pub back : D
   pub other : refusal ≢ InProgress
   pub refused : IsUnopenedBy device disk pass refusal header back
-  pub outcome_is : outcome ≡ ended_unopened refusal header back (device back).faults
-
--- The bay was asked once for the key file and gave none; the disk is handed back as it was, and
--- that of a header, where one was given.
-pub record HasNoKeyFile {B D L : Type 0} (holdings : B → Holdings D) (asks_key : AsksKey B)
-    (key_file : List ℕ) (disk : D) (header : Option D) (between new : B) (outcome : Outcome D L) :
-    Type 0 where
-  pub fault : BayFault
-  pub asked : asks_key between key_file (Err fault) new
-  pub leaves : LeavesAll (holdings between) (holdings new)
-  pub count : FaultCounts fault (holdings between).faults (holdings new).faults
   pub outcome_is : outcome
-      ≡ ended_by (none_came (cause_of_fault Keying fault (holdings new).faults) []) (Some disk)
-      header
+      ≡ ended_refused (cause_of_refusal refusal (device back).faults) (Some (Opening refusal)) header
+      back

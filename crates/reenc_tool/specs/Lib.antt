@@ -1,11 +1,10 @@
 pub mod Alone
+pub mod Asking
 pub mod Beside
 pub mod Demonstrating
 pub mod Encrypted
 pub mod Ending
 pub mod KeptBeside
-pub mod KeyFiles
-pub mod Linking
 pub mod Making
 pub mod Outcomes
 pub mod Plain

@@ -1,9 +1,8 @@
 -- What `format` did.
-use Rattle.std.specs.Prelude.{ℕ, ◌≡◌, ◌⊎◌, ◌≤◌, List, [], ◌∷◌, ◌++◌, length, take, codes}
+use Rattle.std.specs.Prelude.{ℕ, ◌≡◌, ◌⊎◌, ◌≤◌, List, [], ◌∷◌, ◌++◌, length, codes}
 use Rattle.std.specs.Prelude.{true, Option, Some, None, is_some, Result, Ok, Err}
 use Rattle.base_terms.specs.Causes.{HasCause}
 use Rattle.base_terms.specs.declared.failed.Failed.{Failed}
-use Rattle.bays.specs.Bays.{Holdings, LeavesAll, LeavesOtherDisks}
 use Rattle.command_line.specs.Commands.{asked, formats, starts}
 use Rattle.command_line.specs.Formats.{Formatting}
 use Rattle.command_line.specs.Starts.{Starting}
@@ -28,8 +27,8 @@ use Rattle.volume_opening.specs.Refusals.{AreOf}
 use Rattle.reenc_tool.specs.declared.ended.Cause.{Cause}
 use Rattle.reenc_tool.specs.declared.ended.Cause.TheVariants.{Device, Fine, Seeds}
 use Rattle.reenc_tool.specs.declared.ended.Failing.TheVariants.{Writing}
-use Rattle.reenc_tool.specs.Encrypted.{AsksKey, HasNoKeyFile}
-use Rattle.reenc_tool.specs.Outcomes.{AsksDisk, HasNoDisk, Outcome, ended_by, none_came, unserved}
+use Rattle.reenc_tool.specs.Asking.{BayView, Gives, UnderKey, disk_named}
+use Rattle.reenc_tool.specs.Outcomes.{EndsSilently, Outcome, ended_with}
 use Rattle.reenc_tool.specs.Status.{cause_of_format}
 
 -- what the words wish of a new volume
@@ -65,7 +64,7 @@ pub record HasNoSeed {B D L : Type 0} (supply now : Supply) (old new : B) (outco
   pub draws : Draws supply now unused failed_call
   pub count : HasCause supply.faults now.faults failed_call
   pub stands : new ≡ old
-  pub outcome_is : outcome ≡ unserved (Seeds now.faults) None []
+  pub outcome_is : outcome ≡ ended_with (Seeds now.faults) None None
 
 -- ---- the volume
 -- No volume was made: memory was wanted, or it is the first that doesn't fit. The disk is as it was.
@@ -122,7 +121,7 @@ pub record IsOnOne {D L : Type 0} (device : D → DiskState) (wish : Wish) (pass
   pub back : D
   pub came : ComesTo device wish (sizes_alone (device disk)) pass seed disk back outcome.cause
       report
-  pub outcome_is : outcome ≡ unserved outcome.cause (Some back) []
+  pub outcome_is : outcome ≡ ended_with outcome.cause (Some back) None
 
 -- the sizes of a header's disk that is one of its own and of the disk behind it
 abbrev pub sizes_behind : DiskState → DiskState → Sizes
@@ -143,7 +142,7 @@ pub record IsOnTwo {D L : Type 0} (device : D → DiskState) (wish : Wish) (pass
   pub are : AreOf device joint header back
   pub came : ComesTo joined_disk wish (sizes_behind (device head) (device disk)) pass seed
       (begun_joint (device head) (device disk)) joint outcome.cause report
-  pub outcome_is : outcome ≡ ended_by (none_came outcome.cause []) (Some back) header
+  pub outcome_is : outcome ≡ ended_with outcome.cause (Some back) header
 
 -- by the disk of the header, where that is one of its own
 abbrev pub IsOn : {D L : Type 0} → (D → DiskState) → Wish → List ℕ → List ℕ → Option D → D →
@@ -154,81 +153,28 @@ IsOn device wish pass seed (Some head) disk outcome report =
     IsOnTwo device wish pass seed head disk outcome report
 
 -- ---- the bay
--- The bay was asked once for the key file and gave it: the passphrase is all of it, up to 513
--- bytes, of which no more than 512 are one. Nothing more was asked.
-pub record HasPassphrase {B D L : Type 0} (device : D → DiskState) (holdings : B → Holdings D)
-    (asks_key : AsksKey B) (format : Formatting) (seed : List ℕ) (header : Option D) (disk : D)
-    (between new : B) (outcome : Outcome D L) (report : Option (List ℕ)) : Type 0 where
-  pub pass : List ℕ
-  pub asked : asks_key between format.key_file (Ok pass) new
-  pub whole : (whole : List ℕ) → (holdings between).keyring format.key_file ≡ Some whole →
-      pass ≡ take 513 whole
-  pub leaves : LeavesAll (holdings between) (holdings new)
-  pub stood : (holdings new).faults ≡ (holdings between).faults
-  pub ended : IsOn device (wish_of format) pass seed header disk outcome report
-
--- or it gave none, and nothing is said
-abbrev pub AsksForKey : {B D L : Type 0} → (D → DiskState) → (B → Holdings D) → AsksKey B →
-    Formatting → List ℕ → Option D → D → B → B → Outcome D L → Option (List ℕ) → Type 0
-AsksForKey device holdings asks_key format seed header disk between new outcome report =
-    HasPassphrase device holdings asks_key format seed header disk between new outcome report
-    ⊎ ((report ≡ None)
-    × HasNoKeyFile holdings asks_key format.key_file disk header between new outcome)
-
--- The bay was asked once for a disk of that name and gave it: it is the one on its shelf, which all
--- else left.
-pub record HasGiven {B D : Type 0} (device : D → DiskState) (holdings : B → Holdings D)
-    (asks_disk : AsksDisk B D) (name : List ℕ) (atom : ℕ) (disk : D) (old new : B) : Type 0 where
-  pub asked : asks_disk old name atom (Ok disk) new
-  pub kept : (kept : D) → (holdings old).shelf name ≡ Some kept → disk ≡ kept
-  pub atom_is : (device disk).size ≡ atom
-  pub stood : (holdings new).faults ≡ (holdings old).faults
-  pub leaves : LeavesOtherDisks name (holdings old) (holdings new)
-
--- The disk of the header that the words name was given. Then the key file was asked for.
-pub record HasHeader {B D L : Type 0} (device : D → DiskState) (holdings : B → Holdings D)
-    (asks_disk : AsksDisk B D) (asks_key : AsksKey B) (format : Formatting) (seed name : List ℕ)
-    (disk : D) (between new : B) (outcome : Outcome D L) (report : Option (List ℕ)) : Type 0 where
-  pub head : D
-  pub after : B
-  pub given : HasGiven device holdings asks_disk name format.atom head between after
-  pub ended : AsksForKey device holdings asks_key format seed (Some head) disk after new outcome
-      report
-
--- the disk of the header was asked for, where the words name one; where none was given the other
--- is handed back
-abbrev pub AsksForHeader : {B D L : Type 0} → (D → DiskState) → (B → Holdings D) → AsksDisk B D →
-    AsksKey B → Formatting → List ℕ → Option (List ℕ) → D → B → B → Outcome D L →
-    Option (List ℕ) → Type 0
-AsksForHeader device holdings asks_disk asks_key format seed None disk between new outcome report =
-    AsksForKey device holdings asks_key format seed None disk between new outcome report
-AsksForHeader device holdings asks_disk asks_key format seed (Some name) disk between new outcome
-    report =
-    HasHeader device holdings asks_disk asks_key format seed name disk between new outcome report
-    ⊎ ((report ≡ None)
-    × HasNoDisk holdings asks_disk name format.atom (Some disk) between new outcome)
-
--- The disk that the words name was given. Then that of the header was asked for, where they name
--- one.
-pub record HasPlace {B D L : Type 0} (device : D → DiskState) (holdings : B → Holdings D)
-    (asks_disk : AsksDisk B D) (asks_key : AsksKey B) (format : Formatting) (seed : List ℕ)
-    (old new : B) (outcome : Outcome D L) (report : Option (List ℕ)) : Type 0 where
-  pub disk : D
-  pub between : B
-  pub given : HasGiven device holdings asks_disk format.disk format.atom disk old between
-  pub ended : AsksForHeader device holdings asks_disk asks_key format seed format.header disk
-      between new outcome report
+-- The disk of the header was asked for, where the words name one, and then the key file.
+abbrev pub MakesBehind : {B D L : Type 0} → BayView B D L → Formatting → List ℕ → Option (List ℕ)
+    → D → B → B → Outcome D L → Option (List ℕ) → Type 0
+MakesBehind bay format seed None disk between new outcome report =
+    UnderKey bay format.key_file disk None between new outcome report
+    (λ pass. IsOnOne bay.device (wish_of format) pass seed disk outcome report)
+MakesBehind bay format seed (Some name) disk between new outcome report =
+    Gives bay (disk_named bay name format.atom) between new
+    (λ head after. UnderKey bay format.key_file disk (Some head) after new outcome report
+    (λ pass. IsOnTwo bay.device (wish_of format) pass seed head disk outcome report))
+    (EndsSilently (Some disk) None outcome report)
 
 -- What `format` did: it drew its bytes, and asked for the disk, for that of the header and for the
 -- key file; each where all before was given.
-abbrev pub HasMade : {B D L : Type 0} → (D → DiskState) → (B → Holdings D) → AsksDisk B D →
-    AsksKey B → Formatting → Supply → Supply → B → B → Outcome D L → Option (List ℕ) → Type 0
-HasMade device holdings asks_disk asks_key format supply now old new outcome report =
+abbrev pub HasMade : {B D L : Type 0} → BayView B D L → Formatting → Supply → Supply → B → B
+    → Outcome D L → Option (List ℕ) → Type 0
+HasMade bay format supply now old new outcome report =
     ((report ≡ None) × HasNoSeed supply now old new outcome)
     ⊎ ((seed : List ℕ) × HasSeed supply now seed
-    × (HasPlace device holdings asks_disk asks_key format seed old new outcome report
-    ⊎ ((report ≡ None)
-    × HasNoDisk holdings asks_disk format.disk format.atom None old new outcome)))
+    × Gives bay (disk_named bay format.disk format.atom) old new
+    (λ disk between. MakesBehind bay format seed format.header disk between new outcome report)
+    (EndsSilently None None outcome report))
 
 -- no command but `format` and `init` draws
 abbrev pub DrawsNone : {R : Type 0} → List (List ℕ) → R → R → Type 0

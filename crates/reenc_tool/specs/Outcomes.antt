@@ -1,6 +1,5 @@
--- What a command hands back, and how it asks for its disk.
-use Rattle.std.specs.Prelude.{ℕ, ◌≡◌, Bool, false, List, [], map, Option, None, option_map, Result, Err}
-use Rattle.bays.specs.Bays.{FaultCounts, Holdings, LeavesAll}
+-- What a command hands back.
+use Rattle.std.specs.Prelude.{ℕ, ◌≡◌, Bool, false, List, [], map, Option, Some, None, option_map}
 use Rattle.bays.specs.declared.bay.BayFault.{BayFault}
 use Rattle.bays.specs.declared.bay.BayFault.TheVariants as BayFaults
 use Rattle.luks_store.specs.declared.fault.StoreFault.{StoreFault}
@@ -9,7 +8,6 @@ use Rattle.reenc_tool.specs.declared.ended.Cause.{Cause}
 use Rattle.reenc_tool.specs.declared.ended.Cause.TheVariants.{Device, Memory}
 use Rattle.reenc_tool.specs.declared.ended.Ended.{Ended}
 use Rattle.reenc_tool.specs.declared.ended.Failing.{Failing}
-use Rattle.reenc_tool.specs.declared.ended.Failing.TheVariants.{Opening}
 use Rattle.reenc_tool.specs.declared.history.Pass.{Pass}
 use Rattle.reenc_tool.specs.declared.history.Pass.TheVariants.{Encrypted, Plain}
 use Rattle.reenc_tool.specs.declared.ended.Sessions.{Sessions}
@@ -77,45 +75,49 @@ abbrev pub none_came : {L : Type 0} → Cause → List L → Coming L
 none_came cause links =
     record { cause = cause; memory = false; pass = None; links = links; ends = [] }
 
--- what a command hands back of its sessions, with a disk and that of a detached header
-abbrev pub ended_by : {D L : Type 0} → Coming L → Option D → Option D → Outcome D L
-ended_by came disk header = record {
-  cause = came.cause;
+-- ---- how a command ends
+-- what it hands back that ended by this cause, with its disk and that of a detached header, and that
+-- had no links
+abbrev pub ended_with : {D L : Type 0} → Cause → Option D → Option D → Outcome D L
+ended_with cause disk header = record {
+  cause = cause;
   fault = None;
   refusal = None;
-  memory = came.memory;
+  memory = false;
   disk = disk;
   header = header;
-  pass = came.pass;
+  pass = None;
   demo = None;
+  links = [];
+  ends = [];
+}
+
+-- and that has nothing to say
+abbrev pub EndsSilently : {D L : Type 0} → Option D → Option D → Outcome D L → Option (List ℕ)
+    → Cause → Type 0
+EndsSilently disk header outcome report cause =
+    (report ≡ None) × (outcome ≡ ended_with cause disk header)
+
+-- one that opened no volume, or begins no conversion, for this refusal where that is told
+abbrev pub ended_refused : {D L : Type 0} → Cause → Option VolumeRefusal → Option D → D
+    → Outcome D L
+ended_refused {D} {L} cause refusal header disk =
+    record (ended_with {D = D} {L = L} cause (Some disk) header) { refusal = refusal }
+
+-- one whose sessions came so
+abbrev pub ended_by : {D L : Type 0} → Coming L → Option D → Option D → Outcome D L
+ended_by {D} {L} came disk header = record (ended_with {D = D} {L = L} came.cause disk header) {
+  memory = came.memory;
+  pass = came.pass;
   links = came.links;
   ends = came.ends;
 }
 
--- what a command hands back that served no session
+-- one that had links and served no session
 abbrev pub unserved : {D L : Type 0} → Cause → Option D → List L → Outcome D L
 unserved cause disk links = ended_by (none_came cause links) disk None
 
--- what asking a bay for a disk does: from the bay before by what was asked for and answered to the
--- bay after
-abbrev pub AsksDisk : Type 0 → Type 0 → Type 1
-AsksDisk B D = B → List ℕ → ℕ → Result D BayFault → B → Type 0
-
--- the cause of a command that was given nothing: what it asked for failed, which the bay counted,
--- or memory was wanted
+-- one that was given nothing: what it asked for failed, which the bay counted, or memory was wanted
 abbrev pub cause_of_fault : Failing → BayFault → ℕ → Cause
 cause_of_fault failing BayFaults.Failed faults = Device failing faults
 cause_of_fault failing BayFaults.Memory faults = Memory
-
--- The bay was asked once for that disk and gave none, and lost nothing. Its count of faults rose
--- where it failed, which the cause keeps, and stands where memory was wanted. A disk that was given
--- before is handed back.
-pub record HasNoDisk {B D L : Type 0} (holdings : B → Holdings D) (asks : AsksDisk B D)
-    (name : List ℕ) (atom : ℕ) (given : Option D) (old new : B) (outcome : Outcome D L) : Type 0
-  where
-    pub fault : BayFault
-    pub asked : asks old name atom (Err fault) new
-    pub leaves : LeavesAll (holdings old) (holdings new)
-    pub count : FaultCounts fault (holdings old).faults (holdings new).faults
-    pub outcome_is : outcome
-        ≡ unserved (cause_of_fault Opening fault (holdings new).faults) given []

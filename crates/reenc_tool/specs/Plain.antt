@@ -1,6 +1,5 @@
 -- What `serve` did on a plain disk.
-use Rattle.std.specs.Prelude.{ℕ, ◌≡◌, ◌⊎◌, ◌<◌, List, [], length, Some, None}
-use Rattle.bays.specs.Bays.{Holdings}
+use Rattle.std.specs.Prelude.{ℕ, ◌≡◌, ◌⊎◌, ◌<◌, List, length, Some, None}
 use Rattle.bays.specs.Stories.{LinkState}
 use Rattle.command_line.specs.Commands.{Serving}
 use Rattle.plain_disk.specs.Plain.{Block, Exchange, Legal, newest_bytes}
@@ -16,8 +15,8 @@ use Rattle.volume_machine.specs.Sound.{IsSound, AreApart}
 use Rattle.volume_machine.specs.States.{State}
 use Rattle.reenc_tool.specs.declared.ended.Cause.TheVariants.{Fine, Memory, NoFit}
 use Rattle.reenc_tool.specs.declared.ended.Fit.TheVariants.{Blocks}
-use Rattle.reenc_tool.specs.Linking.{AsksLinks, IsLinked}
-use Rattle.reenc_tool.specs.Outcomes.{Coming, Outcome, ended_by, unserved}
+use Rattle.reenc_tool.specs.Asking.{BayView, IsLinked}
+use Rattle.reenc_tool.specs.Outcomes.{Coming, Outcome, ended_by, ended_with, unserved}
 use Rattle.reenc_tool.specs.Runs.{HasServed, VolumeKeys}
 use Rattle.reenc_tool.specs.Sessions.{most_events}
 
@@ -77,20 +76,20 @@ pub record HasNoBlock {B D L : Type 0} (device : D → DiskState) (disk : D) (be
     (outcome : Outcome D L) : Type 0 where
   pub none : (device disk).atoms ≡ 0
   pub stands : new ≡ between
-  pub outcome_is : outcome ≡ unserved (NoFit Blocks 0 1) (Some disk) []
+  pub outcome_is : outcome ≡ ended_with (NoFit Blocks 0 1) (Some disk) None
 
 -- the disk has a block, and links were asked for
-pub record HasBlock {B D L : Type 0} (device : D → DiskState) (state : L → LinkState)
-    (holdings : B → Holdings D) (asks_links : AsksLinks B L) (serve : Serving) (disk : D)
+pub record HasBlock {B D L : Type 0} (bay : BayView B D L) (serve : Serving) (disk : D)
     (between new : B) (outcome : Outcome D L) : Type 0 where
-  pub blocks : 0 < (device disk).atoms
-  pub linked : IsLinked state holdings asks_links serve between new
+  pub blocks : 0 < (bay.device disk).atoms
+  pub linked : IsLinked bay serve between new
       (λ cause links. outcome ≡ unserved cause (Some disk) links)
-      (λ begun. Ran device state disk begun outcome ⊎ IsUnserved device disk begun outcome)
+      (λ begun. Ran bay.device bay.state disk begun outcome
+      ⊎ IsUnserved bay.device disk begun outcome)
 
 -- what came of the disk that a bay gave
-abbrev pub ServesPlain : {B D L : Type 0} → (D → DiskState) → (L → LinkState) → (B → Holdings D) →
-    AsksLinks B L → Serving → D → B → B → Outcome D L → Type 0
-ServesPlain device state holdings asks_links serve disk between new outcome =
-    HasNoBlock device disk between new outcome
-    ⊎ HasBlock device state holdings asks_links serve disk between new outcome
+abbrev pub ServesPlain : {B D L : Type 0} → BayView B D L → Serving → D → B → B → Outcome D L
+    → Type 0
+ServesPlain bay serve disk between new outcome =
+    HasNoBlock bay.device disk between new outcome
+    ⊎ HasBlock bay serve disk between new outcome

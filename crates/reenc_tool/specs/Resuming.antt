@@ -1,9 +1,7 @@
 -- What `resume` did.
-use Rattle.std.specs.Prelude.{ℕ, ◌≡◌, ◌⊎◌, false, List, [], ◌∷◌, ◌++◌, take, codes}
-use Rattle.std.specs.Prelude.{Option, Some, None, Ok}
+use Rattle.std.specs.Prelude.{ℕ, ◌≡◌, ◌⊎◌, List, [], ◌∷◌, ◌++◌, codes, Option, Some, None}
 use Rattle.std.specs.Fmt.{decimal}
 use Rattle.aes_core.specs.declared.cipher.Aes.{Aes}
-use Rattle.bays.specs.Bays.{Holdings, LeavesAll}
 use Rattle.command_line.specs.Resumes.{Resuming as Words}
 use Rattle.header_report.specs.Examinations.{sizes_alone}
 use Rattle.sector_disk.specs.JoinedDisks.Joined.{joined_disk}
@@ -22,11 +20,10 @@ use Rattle.recovery_laws.specs.Served.Clients.{StoodFor}
 use Rattle.hotzone.specs.ZoneEvents.Readings.{reading_of}
 use Rattle.reenc_tool.specs.declared.ended.Cause.TheVariants.{Fine, Memory}
 use Rattle.reenc_tool.specs.declared.volume_refusal.VolumeRefusal.TheVariants.{Resuming}
-use Rattle.reenc_tool.specs.Encrypted.{AsksKey, HasNoKeyFile}
+use Rattle.reenc_tool.specs.Asking.{BayView, Gives, UnderKey, disk_named}
 use Rattle.reenc_tool.specs.Kept.{KeepsRefused, KeepsRun, KnowsKeys, KnowsRefused, StandsAtEnd}
 use Rattle.reenc_tool.specs.Kept.{StandsAtStops, WhereNoneFailed}
-use Rattle.reenc_tool.specs.Making.{HasGiven}
-use Rattle.reenc_tool.specs.Outcomes.{AsksDisk, HasNoDisk, Outcome, ended_by, none_came, unserved}
+use Rattle.reenc_tool.specs.Outcomes.{EndsSilently, Outcome, ended_refused, ended_with}
 use Rattle.reenc_tool.specs.Status.{cause_of_end, cause_of_resume}
 
 -- the line of a conversion that was led to its end, by the blocks of its volume
@@ -62,7 +59,7 @@ pub record IsFinishedOn {D L : Type 0} (device : D → DiskState) (pass : List �
       finished.after content
   pub stands : StandsAtEnd finished.run
   pub stops : StandsAtStops finished.run
-  pub outcome_is : outcome ≡ ended_by (none_came Fine []) (Some back) header
+  pub outcome_is : outcome ≡ ended_with Fine (Some back) header
   pub report_is : report ≡ Some (finished_line blocks)
 
 -- The volume was opened, and its conversion's worker ended otherwise, which is the cause. The disk is
@@ -86,24 +83,8 @@ pub record IsHaltedOn {D L : Type 0} (device : D → DiskState) (pass : List ℕ
   pub stops : StandsAtStops halted.run
   pub complete : WhereNoneFailed device disk pass header back (WantsAtWork end)
   pub outcome_is : outcome
-      ≡ ended_by (none_came (cause_of_end end (device back).faults) []) (Some back) header
+      ≡ ended_with (cause_of_end end (device back).faults) (Some back) header
   pub report_is : report ≡ None
-
--- what a command hands back that opened no volume of which a conversion is under way, of whose disk
--- so many calls failed
-abbrev pub ended_unresumed : {D L : Type 0} → Refusal → Option D → D → ℕ → Outcome D L
-ended_unresumed refusal header disk faults = record {
-  cause = cause_of_resume refusal faults;
-  fault = None;
-  refusal = Some (Resuming refusal);
-  memory = false;
-  disk = Some disk;
-  header = header;
-  pass = None;
-  demo = None;
-  links = [];
-  ends = [];
-}
 
 -- No such volume was opened, for this refusal, and the disk is handed back. Nothing was written on it
 -- unless one of its calls failed, or memory was wanted once all was written by which it is opened; and a
@@ -120,7 +101,9 @@ pub record IsRefusedOn {D L : Type 0} (device : D → DiskState) (pass : List �
   pub known : KnowsRefused sector sealed opened device disk pass refusal header back refused
   pub keeps : KeepsRefused sector sealed opened device disk pass refusal header back refused
   pub complete : WhereNoneFailed device disk pass header back (WantsBefore refusal)
-  pub outcome_is : outcome ≡ ended_unresumed refusal header back (device back).faults
+  pub outcome_is : outcome
+      ≡ ended_refused (cause_of_resume refusal (device back).faults) (Some (Resuming refusal)) header
+      back
   pub report_is : report ≡ None
 
 -- what came of a disk whose volume's conversion was to be led to its end; where memory was wanted
@@ -131,43 +114,14 @@ ComesToResume device pass disk outcome report =
     IsFinishedOn device pass disk outcome report
     ⊎ IsHaltedOn device pass disk outcome report
     ⊎ IsRefusedOn device pass disk outcome report
-    ⊎ ((report ≡ None) × (outcome ≡ unserved Memory (Some disk) []))
+    ⊎ EndsSilently (Some disk) None outcome report Memory
 
 -- ---- the bay
--- The bay was asked once for the key file and gave it: the passphrase is all of it, up to 513
--- bytes, of which no more than 512 are one. Nothing more was asked.
-pub record HasKey {B D L : Type 0} (device : D → DiskState) (holdings : B → Holdings D)
-    (asks_key : AsksKey B) (words : Words) (disk : D) (between new : B) (outcome : Outcome D L)
-    (report : Option (List ℕ)) : Type 0 where
-  pub pass : List ℕ
-  pub asked : asks_key between words.key_file (Ok pass) new
-  pub whole : (whole : List ℕ) → (holdings between).keyring words.key_file ≡ Some whole →
-      pass ≡ take 513 whole
-  pub leaves : LeavesAll (holdings between) (holdings new)
-  pub stood : (holdings new).faults ≡ (holdings between).faults
-  pub ended : ComesToResume device pass disk outcome report
-
--- or it gave none, and nothing is said
-abbrev pub AsksForKey : {B D L : Type 0} → (D → DiskState) → (B → Holdings D) → AsksKey B →
-    Words → D → B → B → Outcome D L → Option (List ℕ) → Type 0
-AsksForKey device holdings asks_key words disk between new outcome report =
-    HasKey device holdings asks_key words disk between new outcome report
-    ⊎ ((report ≡ None)
-    × HasNoKeyFile holdings asks_key words.key_file disk None between new outcome)
-
--- The disk that the words name was given. Then the key file was asked for.
-pub record HasVolume {B D L : Type 0} (device : D → DiskState) (holdings : B → Holdings D)
-    (asks_disk : AsksDisk B D) (asks_key : AsksKey B) (words : Words) (old new : B)
-    (outcome : Outcome D L) (report : Option (List ℕ)) : Type 0 where
-  pub disk : D
-  pub between : B
-  pub given : HasGiven device holdings asks_disk words.disk words.atom disk old between
-  pub ended : AsksForKey device holdings asks_key words disk between new outcome report
-
 -- What `resume` did: it asked for the disk and, where that was given, for the key file.
-abbrev pub HasResumed : {B D L : Type 0} → (D → DiskState) → (B → Holdings D) → AsksDisk B D →
-    AsksKey B → Words → B → B → Outcome D L → Option (List ℕ) → Type 0
-HasResumed device holdings asks_disk asks_key words old new outcome report =
-    HasVolume device holdings asks_disk asks_key words old new outcome report
-    ⊎ ((report ≡ None)
-    × HasNoDisk holdings asks_disk words.disk words.atom None old new outcome)
+abbrev pub HasResumed : {B D L : Type 0} → BayView B D L → Words → B → B → Outcome D L
+    → Option (List ℕ) → Type 0
+HasResumed bay words old new outcome report =
+    Gives bay (disk_named bay words.disk words.atom) old new
+    (λ disk between. UnderKey bay words.key_file disk None between new outcome report
+    (λ pass. ComesToResume bay.device pass disk outcome report))
+    (EndsSilently None None outcome report)

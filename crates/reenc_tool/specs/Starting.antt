@@ -1,7 +1,5 @@
 -- What `init` did.
-use Rattle.std.specs.Prelude.{ℕ, ◌≡◌, ◌⊎◌, false, List, [], ◌∷◌, ◌++◌, take, codes}
-use Rattle.std.specs.Prelude.{Option, Some, None, Ok}
-use Rattle.bays.specs.Bays.{Holdings, LeavesAll}
+use Rattle.std.specs.Prelude.{ℕ, ◌≡◌, ◌⊎◌, List, [], ◌∷◌, ◌++◌, codes, Option, Some, None}
 use Rattle.command_line.specs.Starts.{Starting, guard_name}
 use Rattle.command_line.specs.declared.starting.Guard.{Guard as NamedGuard}
 use Rattle.command_line.specs.declared.starting.Guard.TheVariants as named
@@ -17,9 +15,9 @@ use Rattle.sector_disk.specs.Devices.{Device as DiskState}
 use Rattle.reenc_tool.specs.declared.ended.Cause.TheVariants.{Fine, Memory}
 use Rattle.reenc_tool.specs.declared.volume_refusal.VolumeRefusal.{VolumeRefusal}
 use Rattle.reenc_tool.specs.declared.volume_refusal.VolumeRefusal.TheVariants.{Opening, Keyslots}
-use Rattle.reenc_tool.specs.Encrypted.{AsksKey, HasNoKeyFile}
-use Rattle.reenc_tool.specs.Making.{HasGiven, HasNoSeed, HasSeed}
-use Rattle.reenc_tool.specs.Outcomes.{AsksDisk, HasNoDisk, Outcome, ended_by, none_came, unserved}
+use Rattle.reenc_tool.specs.Asking.{BayView, Gives, UnderKey, disk_named}
+use Rattle.reenc_tool.specs.Making.{HasNoSeed, HasSeed}
+use Rattle.reenc_tool.specs.Outcomes.{EndsSilently, Outcome, ended_refused, ended_with}
 use Rattle.reenc_tool.specs.Status.{cause_of_start}
 
 -- what the words name is what keeps zones safe
@@ -55,7 +53,7 @@ pub record IsStarted {D L : Type 0} (device : D → DiskState) (words : Starting
   where
     pub back : D
     pub started : IsStartedBy device disk (wish_of words) pass seed back
-    pub outcome_is : outcome ≡ ended_by (none_came Fine []) (Some back) None
+    pub outcome_is : outcome ≡ ended_with Fine (Some back) None
     pub report_is : report ≡ Some (started_line words)
 
 -- why no volume was opened, or which keyslots would go, where that is why no conversion was begun
@@ -63,21 +61,6 @@ abbrev pub opening_refusal : Refusal → Option VolumeRefusal
 opening_refusal (starts.Unopened refusal) = Some (Opening refusal)
 opening_refusal (starts.Keyslots list) = Some (Keyslots list)
 opening_refusal _ = None
-
--- what a command hands back that began no conversion, of whose disk so many calls failed
-abbrev pub ended_unstarted : {D L : Type 0} → Refusal → D → ℕ → Outcome D L
-ended_unstarted refusal disk faults = record {
-  cause = cause_of_start refusal faults;
-  fault = None;
-  refusal = opening_refusal refusal;
-  memory = false;
-  disk = Some disk;
-  header = None;
-  pass = None;
-  demo = None;
-  links = [];
-  ends = [];
-}
 
 -- None was begun, for this refusal, and the disk is handed back. Unless one of its calls failed it
 -- holds what it held; else, from the first sync on, it is as a stop may leave it.
@@ -87,7 +70,9 @@ pub record IsUnstarted {D L : Type 0} (device : D → DiskState) (words : Starti
     pub refusal : Refusal
     pub back : D
     pub refused : IsUnstartedBy device disk (wish_of words) pass seed refusal back
-    pub outcome_is : outcome ≡ ended_unstarted refusal back (device back).faults
+    pub outcome_is : outcome
+        ≡ ended_refused (cause_of_start refusal (device back).faults) (opening_refusal refusal) None
+        back
     pub report_is : report ≡ None
 
 -- what came of a disk whose volume was to be converted; where memory was wanted for what is to be
@@ -97,46 +82,17 @@ abbrev pub ComesToStart : {D L : Type 0} → (D → DiskState) → Starting → 
 ComesToStart device words pass seed disk outcome report =
     IsStarted device words pass seed disk outcome report
     ⊎ IsUnstarted device words pass seed disk outcome report
-    ⊎ ((report ≡ None) × (outcome ≡ unserved Memory (Some disk) []))
+    ⊎ EndsSilently (Some disk) None outcome report Memory
 
 -- ---- the bay
--- The bay was asked once for the key file and gave it: the passphrase is all of it, up to 513
--- bytes, of which no more than 512 are one. Nothing more was asked.
-pub record HasKey {B D L : Type 0} (device : D → DiskState) (holdings : B → Holdings D)
-    (asks_key : AsksKey B) (words : Starting) (seed : List ℕ) (disk : D) (between new : B)
-    (outcome : Outcome D L) (report : Option (List ℕ)) : Type 0 where
-  pub pass : List ℕ
-  pub asked : asks_key between words.key_file (Ok pass) new
-  pub whole : (whole : List ℕ) → (holdings between).keyring words.key_file ≡ Some whole →
-      pass ≡ take 513 whole
-  pub leaves : LeavesAll (holdings between) (holdings new)
-  pub stood : (holdings new).faults ≡ (holdings between).faults
-  pub ended : ComesToStart device words pass seed disk outcome report
-
--- or it gave none, and nothing is said
-abbrev pub AsksForKey : {B D L : Type 0} → (D → DiskState) → (B → Holdings D) → AsksKey B →
-    Starting → List ℕ → D → B → B → Outcome D L → Option (List ℕ) → Type 0
-AsksForKey device holdings asks_key words seed disk between new outcome report =
-    HasKey device holdings asks_key words seed disk between new outcome report
-    ⊎ ((report ≡ None)
-    × HasNoKeyFile holdings asks_key words.key_file disk None between new outcome)
-
--- The disk that the words name was given. Then the key file was asked for.
-pub record HasVolume {B D L : Type 0} (device : D → DiskState) (holdings : B → Holdings D)
-    (asks_disk : AsksDisk B D) (asks_key : AsksKey B) (words : Starting) (seed : List ℕ)
-    (old new : B) (outcome : Outcome D L) (report : Option (List ℕ)) : Type 0 where
-  pub disk : D
-  pub between : B
-  pub given : HasGiven device holdings asks_disk words.disk words.atom disk old between
-  pub ended : AsksForKey device holdings asks_key words seed disk between new outcome report
-
 -- What `init` did: it drew its bytes, and asked for the disk and for the key file; each where all
 -- before was given.
-abbrev pub HasStarted : {B D L : Type 0} → (D → DiskState) → (B → Holdings D) → AsksDisk B D →
-    AsksKey B → Starting → Supply → Supply → B → B → Outcome D L → Option (List ℕ) → Type 0
-HasStarted device holdings asks_disk asks_key words supply now old new outcome report =
+abbrev pub HasStarted : {B D L : Type 0} → BayView B D L → Starting → Supply → Supply → B → B
+    → Outcome D L → Option (List ℕ) → Type 0
+HasStarted bay words supply now old new outcome report =
     ((report ≡ None) × HasNoSeed supply now old new outcome)
     ⊎ ((seed : List ℕ) × HasSeed supply now seed
-    × (HasVolume device holdings asks_disk asks_key words seed old new outcome report
-    ⊎ ((report ≡ None)
-    × HasNoDisk holdings asks_disk words.disk words.atom None old new outcome)))
+    × Gives bay (disk_named bay words.disk words.atom) old new
+    (λ disk between. UnderKey bay words.key_file disk None between new outcome report
+    (λ pass. ComesToStart bay.device words pass seed disk outcome report))
+    (EndsSilently None None outcome report))

@@ -2,7 +2,6 @@
 use Rattle.std.specs.Prelude.{ℕ, ◌≡◌, ◌≢◌, ◌+◌, ◌++◌, ◌<◌, Bool, true, false, List, length, Option}
 use Rattle.std.specs.Prelude.{Some}
 use Rattle.aes_core.specs.declared.cipher.Aes.{Aes}
-use Rattle.bays.specs.Bays.{Holdings}
 use Rattle.bays.specs.Stories.{LinkState}
 use Rattle.command_line.specs.Commands.{Serving}
 use Rattle.volume_laws.specs.BesideConversions.Ends.{IsConvertedBeside}
@@ -30,17 +29,18 @@ use Rattle.volume_machine.specs.Runs.{Happening, IsRun, last_of}
 use Rattle.volume_machine.specs.States.{State}
 use Rattle.hotzone.specs.ZoneEvents.Heads.{header_on}
 use Rattle.hotzone.specs.ZoneEvents.Readings.{reading_of}
+use Rattle.reenc_tool.specs.Asking.{BayView, IsLinked}
 use Rattle.reenc_tool.specs.Beside.{HasServedConverting, IsRunOfWhole}
 use Rattle.reenc_tool.specs.Encrypted.{HandsBack, RanOver}
 use Rattle.reenc_tool.specs.Kept.{KeepsRefused, KnowsRefused, WhereNoneFailed}
 use Rattle.reenc_tool.specs.KeptBeside.{KeepsBeside, StandsAgainBehind, StandsAgainBeside}
 use Rattle.reenc_tool.specs.KeptBeside.{StandsAtEndBeside}
-use Rattle.reenc_tool.specs.Linking.{AsksLinks, IsLinked}
-use Rattle.reenc_tool.specs.Outcomes.{Coming, Outcome, none_came}
-use Rattle.reenc_tool.specs.Resuming.{ended_unresumed}
+use Rattle.reenc_tool.specs.Outcomes.{Coming, Outcome, ended_refused, none_came}
 use Rattle.reenc_tool.specs.Runs.{VolumeKeys}
 use Rattle.reenc_tool.specs.Sessions.{most_events}
+use Rattle.reenc_tool.specs.Status.{cause_of_resume}
 use Rattle.reenc_tool.specs.declared.ended.Cause.TheVariants.{Fine}
+use Rattle.reenc_tool.specs.declared.volume_refusal.VolumeRefusal.TheVariants.{Resuming}
 
 -- ---- a conversion that is led on
 -- Its end: every block is new, by a header by which nothing is converted.
@@ -117,39 +117,38 @@ RanMidway {D} {L} {sector} {sealed} {opened} {pass} {lanes} {volume} device stat
 -- content that is allowed, by the header by which the volume was opened; and so it does, by the header
 -- that the conversion has come to, wherever deeds stop, events of clients and steps of its worker: under
 -- the passphrase too, where the bytes stood for the content under it.
-pub record HasTakenUp {B D L : Type 0} (device : D → DiskState) (state : L → LinkState)
-    (holdings : B → Holdings D) (asks_links : AsksLinks B L) (serve : Serving) (pass : List ℕ)
+pub record HasTakenUp {B D L : Type 0} (bay : BayView B D L) (serve : Serving) (pass : List ℕ)
     (disk : D) (between new : B) (outcome : Outcome D L) : Type 0 where
   pub sector : DiskCipher Aes → ℕ
   pub sealed : DiskCipher Aes → ℕ → List ℕ → List ℕ
   pub opened : DiskCipher Aes → ℕ → List ℕ → List ℕ
   pub volume : State VolumeKeys
-  pub taken : IsOpenedMidway sector sealed opened (device disk) pass (serve.workers + 1) volume
-  pub known : (first : List ℕ) (content : List (List ℕ)) → (device disk).values ≡ Some first
-      → ImageStandsFor (sizes_alone (device disk)) pass first content
+  pub taken : IsOpenedMidway sector sealed opened (bay.device disk) pass (serve.workers + 1) volume
+  pub known : (first : List ℕ) (content : List (List ℕ)) → (bay.device disk).values ≡ Some first
+      → ImageStandsFor (sizes_alone (bay.device disk)) pass first content
       → (old_key new_key : List ℕ)
-      × StoodFor (sizes_alone (device disk)) taken.keys (device disk) first old_key new_key content
+      × StoodFor (sizes_alone (bay.device disk)) taken.keys (bay.device disk) first old_key new_key content
   pub keeps : (first old_key new_key : List ℕ) (content : List (List ℕ))
       (run : List (Happening VolumeKeys))
-      → StoodFor (sizes_alone (device disk)) taken.keys (device disk) first old_key new_key content
+      → StoodFor (sizes_alone (bay.device disk)) taken.keys (bay.device disk) first old_key new_key content
       → IsRun (without_work volume) run
       → IsKnownBehind taken.calls.found.header (last_of (without_work volume) run).disk
-      → KeepsFor sector sealed opened (device disk) pass (serve.workers + 1) volume taken old_key
+      → KeepsFor sector sealed opened (bay.device disk) pass (serve.workers + 1) volume taken old_key
       new_key content run
   pub keeps_beside : (first old_key new_key : List ℕ) (content : List (List ℕ))
       (deeds : List (Deed VolumeKeys))
-      → StoodFor (sizes_alone (device disk)) taken.keys (device disk) first old_key new_key content
-      → AreDeeds (reading_of (sizes_alone (device disk))) (volume_seals sealed opened volume) volume
+      → StoodFor (sizes_alone (bay.device disk)) taken.keys (bay.device disk) first old_key new_key content
+      → AreDeeds (reading_of (sizes_alone (bay.device disk))) (volume_seals sealed opened volume) volume
       deeds
       → IsKnownBehind taken.calls.found.header (state_after volume deeds).disk
-      → KeepsBeside sector sealed opened (device disk) pass (serve.workers + 1) volume taken old_key
+      → KeepsBeside sector sealed opened (bay.device disk) pass (serve.workers + 1) volume taken old_key
       new_key content deeds
-  pub again_for : (first : List ℕ) (content : List (List ℕ)) → (device disk).values ≡ Some first
-      → ImageStandsFor (sizes_alone (device disk)) pass first content
-      → StandsAgainBeside sealed opened (device disk) pass taken.calls.led.last volume content
-  pub linked : IsLinked state holdings asks_links serve between new
-      (λ cause links. HandsBack device volume.disk (none_came cause links) outcome)
-      (λ begun. RanMidway device state disk taken serve.converts begun outcome)
+  pub again_for : (first : List ℕ) (content : List (List ℕ)) → (bay.device disk).values ≡ Some first
+      → ImageStandsFor (sizes_alone (bay.device disk)) pass first content
+      → StandsAgainBeside sealed opened (bay.device disk) pass taken.calls.led.last volume content
+  pub linked : IsLinked bay serve between new
+      (λ cause links. HandsBack bay.device volume.disk (none_came cause links) outcome)
+      (λ begun. RanMidway bay.device bay.state disk taken serve.converts begun outcome)
 
 -- None was, for this refusal, which comes before the links are asked for, and the disk is handed back;
 -- of a disk that told its bytes it isn't that nothing is being converted. Nothing was written on it
@@ -172,4 +171,6 @@ pub record HasNoConversion {B D L : Type 0} (device : D → DiskState) (pass : L
   pub known : KnowsRefused sector sealed opened device disk pass refusal header back refused
   pub keeps : KeepsRefused sector sealed opened device disk pass refusal header back refused
   pub complete : WhereNoneFailed device disk pass header back (WantsBefore refusal)
-  pub outcome_is : outcome ≡ ended_unresumed refusal header back (device back).faults
+  pub outcome_is : outcome
+      ≡ ended_refused (cause_of_resume refusal (device back).faults) (Some (Resuming refusal)) header
+      back

@@ -4,6 +4,7 @@ ghost use Rattle.std.specs.Prelude.{◌≡◌, ℕ, List, Option, Some, None, ma
 ghost use Rattle.std.specs.Prelude.{string_bytes, vec_len};
 ghost use Rattle.command_line.specs.Commands.{asked};
 ghost use Rattle.reenc_tool.specs.Alone.{CameAlone, IfEnded, IsHandedBack, MatchAlone};
+ghost use Rattle.reenc_tool.specs.Asking.{bay_view};
 ghost use Rattle.reenc_tool.specs.Ending.{EndsAs};
 ghost use Rattle.reenc_tool.specs.Making.{DrawsNone};
 ghost use Rattle.reenc_tool.specs.Outcomes.{outcome_of};
@@ -48,8 +49,9 @@ fn execute<'w, W: Threads + Sync, B: Bay, R: Seeds, G: Gate>(
 ) -> Alone<'w, (Ended<'w, B::Disk, B::Link>, Option<String>)>
     ensures status { IfEnded result (λ told. told.0.status ≡ status_of told.0.cause) }
     ensures came { MatchAlone result
-        (λ told. CameAlone B.Disk.device B.holdings B.asks_disk B.asks_reading B.asks_key
-        (map string_bytes words.now) (R.supply seeds.old) (R.supply seeds.new) bay.old bay.new
+        (λ told. CameAlone (bay_view B.Disk.device B.Link.state B.holdings B.asks_disk
+        B.asks_reading B.asks_key B.asks_links) (map string_bytes words.now)
+        (R.supply seeds.old) (R.supply seeds.new) bay.old bay.new
         (outcome_of told.0) (option_map (λ text. string_bytes text) told.1))
         (λ says. IsHandedBack (map string_bytes words.now) says bay.old bay.new seeds.old
         seeds.new) }
@@ -102,8 +104,9 @@ pub fn run_alone<'w, W: Threads + Sync, B: Bay, R: Seeds, O: Sink, G: Gate>(
     ensures run { MatchAlone result
         (λ ended. (cause : Cause) × (report : Option (List ℕ))
         × EndsAs cause (O.outlet out.old).faults (O.outlet out.new).faults ended.cause
-        × CameAlone B.Disk.device B.holdings B.asks_disk B.asks_reading B.asks_key
-        (map string_bytes words.now) (R.supply seeds.old) (R.supply seeds.new) bay.old bay.new
+        × CameAlone (bay_view B.Disk.device B.Link.state B.holdings B.asks_disk
+        B.asks_reading B.asks_key B.asks_links) (map string_bytes words.now)
+        (R.supply seeds.old) (R.supply seeds.new) bay.old bay.new
         (record (outcome_of ended) { cause = cause }) report
         × Prints (O.outlet out.old) (O.outlet out.new) (text_of cause ended.cause
         (said report (sessions_in (λ list. vec_len list) ended.sessions.items))))

@@ -1,8 +1,8 @@
 ghost use Rattle.std.specs.Prelude.{◌≡◌, ◌+◌, ◌<◌, ◌≤◌, ◌⊎◌, ℕ, List, [], length, map};
 ghost use Rattle.std.specs.Prelude.{slice_index_or};
 ghost use Rattle.std.specs.Prelude.{string_bytes, vec_len, Option, Some, None};
-ghost use Rattle.bays.specs.Bays.{LeavesOtherClients};
 ghost use Rattle.command_line.specs.Commands.{IsServing, asked, serving};
+ghost use Rattle.reenc_tool.specs.Asking.{bay_view};
 ghost use Rattle.reenc_tool.specs.Plain.{IsUnserved, Ran, ServesPlain};
 ghost use Rattle.reenc_tool.specs.Promise.{Came};
 ghost use Rattle.reenc_tool.specs.Servicing.{Serviced};
@@ -106,10 +106,9 @@ where
     <B::Link as Link>::Out: Send,
     requires { IsServing (serving words.now) }
     ensures status { result.status ≡ status_of result.cause }
-    ensures leaves { LeavesOtherClients words.now.address.now (B.holdings bay.old)
-        (B.holdings bay.new) }
-    ensures ended { ServesPlain B.Disk.device B.Link.state B.holdings B.asks_links
-        (serving words.now) disk bay.old bay.new (outcome_of result) }
+    ensures ended { ServesPlain (bay_view B.Disk.device B.Link.state B.holdings B.asks_disk
+        B.asks_reading B.asks_key B.asks_links) (serving words.now) disk bay.old bay.new
+        (outcome_of result) }
 {
     if disk.atoms() == 0 {
         let cause = Cause::NoFit {
@@ -147,8 +146,9 @@ where
     <B::Link as Link>::Out: Send,
     requires { IsServing (serving words.now) }
     ensures status { result.status ≡ status_of result.cause }
-    ensures serviced { Serviced B.Disk.device B.Link.state B.holdings B.asks_disk B.asks_key
-        B.asks_links (serving words.now) bay.old bay.new (outcome_of result) None }
+    ensures serviced { Serviced (bay_view B.Disk.device B.Link.state B.holdings B.asks_disk
+        B.asks_reading B.asks_key B.asks_links) (serving words.now) bay.old bay.new
+        (outcome_of result) None }
 {
     match bay.disk(alloc, words.disk, words.atom) {
         Ok(disk) => {
@@ -218,9 +218,10 @@ where
     ensures status { result.status ≡ status_of result.cause }
     ensures run { (cause : Cause) × (report : Option (List ℕ))
         × EndsAs cause (O.outlet out.old).faults (O.outlet out.new).faults result.cause
-        × Came B.Disk.device B.Link.state B.holdings B.asks_disk B.asks_reading B.asks_key
-        B.asks_links (map string_bytes words.now) (R.supply seeds.old) (R.supply seeds.new)
-        bay.old bay.new (record (outcome_of result) { cause = cause }) report
+        × Came (bay_view B.Disk.device B.Link.state B.holdings B.asks_disk
+        B.asks_reading B.asks_key B.asks_links) (map string_bytes words.now)
+        (R.supply seeds.old) (R.supply seeds.new) bay.old bay.new
+        (record (outcome_of result) { cause = cause }) report
         × Prints (O.outlet out.old) (O.outlet out.new) (text_of cause result.cause
         (said report (sessions_in (λ list. vec_len list) result.sessions.items))) }
     ensures unasked { asked (map string_bytes words.now) ≡ None → bay.new ≡ bay.old }

@@ -7,8 +7,9 @@ ghost use Rattle.header_report.specs.Examinations.{sizes_alone};
 ghost use Rattle.sector_disk.specs.JoinedDisks.Counts.{HasSizes};
 ghost use Rattle.sector_disk.specs.JoinedDisks.Joined.{in_front};
 ghost use Rattle.luks_format.specs.Wishes.{FitsDisk, IsWish};
-ghost use Rattle.reenc_tool.specs.Making.{AsksForHeader, AsksForKey, ComesTo, HasMade, IsOn};
-ghost use Rattle.reenc_tool.specs.Making.{IsOnOne, IsOnTwo, formatted_line, wish_of};
+ghost use Rattle.reenc_tool.specs.Asking.{UnderKey, bay_view};
+ghost use Rattle.reenc_tool.specs.Making.{ComesTo, HasMade, IsOn, IsOnOne, IsOnTwo, MakesBehind};
+ghost use Rattle.reenc_tool.specs.Making.{formatted_line, wish_of};
 ghost use Rattle.reenc_tool.specs.Outcomes.{outcome_of};
 ghost use Rattle.reenc_tool.specs.Status.{status_of};
 
@@ -168,9 +169,11 @@ fn make_in<'w, B: Bay>(
     requires atom { (B.Disk.device disk).size ≡ (formatting words.now).atom }
     requires named { is_some header ≡ is_some (formatting words.now).header }
     ensures status { result.0.status ≡ status_of result.0.cause }
-    ensures made { AsksForKey B.Disk.device B.holdings B.asks_key (formatting words.now) seed.now
-        header disk bay.old bay.new (outcome_of result.0)
-        (option_map (λ text. string_bytes text) result.1) }
+    ensures made { UnderKey (bay_view B.Disk.device B.Link.state B.holdings B.asks_disk
+        B.asks_reading B.asks_key B.asks_links) (formatting words.now).key_file disk header bay.old
+        bay.new (outcome_of result.0) (option_map (λ text. string_bytes text) result.1)
+        (λ pass. IsOn B.Disk.device (wish_of (formatting words.now)) pass seed.now header disk
+        (outcome_of result.0) (option_map (λ text. string_bytes text) result.1)) }
 {
     match bay.key(alloc, words.key_file) {
         Ok(pass) => match header {
@@ -196,9 +199,10 @@ fn make_behind<'w, B: Bay>(
     requires words { IsFormatting (formatting words.now) }
     requires atom { (B.Disk.device disk).size ≡ (formatting words.now).atom }
     ensures status { result.0.status ≡ status_of result.0.cause }
-    ensures made { AsksForHeader B.Disk.device B.holdings B.asks_disk B.asks_key
-        (formatting words.now) seed.now (formatting words.now).header disk bay.old bay.new
-        (outcome_of result.0) (option_map (λ text. string_bytes text) result.1) }
+    ensures made { MakesBehind (bay_view B.Disk.device B.Link.state B.holdings B.asks_disk
+        B.asks_reading B.asks_key B.asks_links) (formatting words.now) seed.now
+        (formatting words.now).header disk bay.old bay.new (outcome_of result.0)
+        (option_map (λ text. string_bytes text) result.1) }
 {
     let Some(name) = words.header else {
         return make_in(alloc, bay, None, disk, words, seed);
@@ -224,7 +228,8 @@ pub fn make<'w, B: Bay, R: Seeds, G: Gate>(
 ) -> (Ended<'w, B::Disk, B::Link>, Option<String>)
     requires { IsFormatting (formatting words.now) }
     ensures status { result.0.status ≡ status_of result.0.cause }
-    ensures made { HasMade B.Disk.device B.holdings B.asks_disk B.asks_key (formatting words.now)
+    ensures made { HasMade (bay_view B.Disk.device B.Link.state B.holdings B.asks_disk
+        B.asks_reading B.asks_key B.asks_links) (formatting words.now)
         (R.supply seeds.old) (R.supply seeds.new) bay.old bay.new (outcome_of result.0)
         (option_map (λ text. string_bytes text) result.1) }
 {

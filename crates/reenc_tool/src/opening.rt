@@ -1,17 +1,18 @@
 // `serve` on an encrypted volume.
 
-ghost use Rattle.std.specs.Prelude.{◌≡◌, ◌+◌, ◌<◌, ◌≤◌, ◌⊎◌, ℕ, length, slice_index_or, None, IfErr, IfOk};
-ghost use Rattle.bays.specs.Bays.{LeavesOtherClients};
+ghost use Rattle.std.specs.Prelude.{◌≡◌, ◌+◌, ◌<◌, ◌≤◌, ◌⊎◌, ℕ, length, slice_index_or};
+ghost use Rattle.std.specs.Prelude.{None, Some, IfErr, IfOk};
 ghost use Rattle.command_line.specs.Commands.{IsServing, serving};
-ghost use Rattle.reenc_tool.specs.Encrypted.{HandsBack, ended_unopened};
-ghost use Rattle.reenc_tool.specs.KeyFiles.{ServesUnder, ServesVolume};
+ghost use Rattle.reenc_tool.specs.Asking.{IsLinked, bay_view};
+ghost use Rattle.reenc_tool.specs.Encrypted.{HandsBack};
+ghost use Rattle.reenc_tool.specs.Servicing.{ServesBy, ServesUnder};
 ghost use Rattle.reenc_tool.specs.Volumes.{IsAnyVolume, IsNoVolume, RanAs};
 ghost use Rattle.recovery_laws.specs.Served.Clients.{without_work};
 ghost use Rattle.luks_store.specs.Devices.{device_of};
-ghost use Rattle.reenc_tool.specs.Linking.{IsLinked};
-ghost use Rattle.reenc_tool.specs.Outcomes.{came_of, none_came, outcome_of};
-ghost use Rattle.reenc_tool.specs.Status.{status_of};
+ghost use Rattle.reenc_tool.specs.Outcomes.{came_of, ended_refused, none_came, outcome_of};
+ghost use Rattle.reenc_tool.specs.Status.{cause_of_refusal, status_of};
 ghost use Rattle.reenc_tool.specs.declared.ended.Cause.{Cause};
+ghost use Rattle.reenc_tool.specs.declared.volume_refusal.VolumeRefusal.{VolumeRefusal};
 ghost use Rattle.shared_volume.specs.Histories.{MayBeShared};
 ghost use Rattle.volume_machine.specs.Beginnings.{IsFresh};
 ghost use Rattle.volume_machine.specs.Seals.{seals_of};
@@ -75,10 +76,9 @@ where
     <B::Link as Link>::Out: Send,
     requires { IsServing (serving words.now) }
     ensures status { result.status ≡ status_of result.cause }
-    ensures leaves { LeavesOtherClients words.now.address.now (B.holdings bay.old)
-        (B.holdings bay.new) }
-    ensures ended { ServesVolume B.Disk.device B.Link.state B.holdings B.asks_key B.asks_links
-        (serving words.now) key_file.now disk bay.old bay.new (outcome_of result) }
+    ensures ended { ServesBy (bay_view B.Disk.device B.Link.state B.holdings B.asks_disk
+        B.asks_reading B.asks_key B.asks_links) (serving words.now) (Some key_file.now)
+        disk bay.old bay.new (outcome_of result) }
 {
     match bay.key(alloc, key_file) {
         Ok(pass) => serve_under(rt, alloc, bay, disk, pass.as_slice(), words, gate),
@@ -156,10 +156,9 @@ where
     <B::Link as Link>::Out: Send,
     requires { IsServing (serving words.now) }
     ensures status { result.status ≡ status_of result.cause }
-    ensures leaves { LeavesOtherClients words.now.address.now (B.holdings bay.old)
-        (B.holdings bay.new) }
-    ensures ended { ServesUnder B.Disk.device B.Link.state B.holdings B.asks_links
-        (serving words.now) pass.now disk bay.old bay.new (outcome_of result) }
+    ensures ended { ServesUnder (bay_view B.Disk.device B.Link.state B.holdings B.asks_disk
+        B.asks_reading B.asks_key B.asks_links) (serving words.now) pass.now disk bay.old bay.new
+        (outcome_of result) }
 {
     opened_volumes_stand_along::<Context>();
     every_run_is_served::<Context>();
@@ -208,10 +207,8 @@ where
     requires fresh { IsFresh (without_work volume) }
     requires sound { IsSound (without_work volume) }
     ensures status { result.status ≡ status_of result.cause }
-    ensures leaves { LeavesOtherClients words.now.address.now (B.holdings bay.old)
-        (B.holdings bay.new) }
-    ensures linked { IsLinked B.Link.state B.holdings B.asks_links (serving words.now) bay.old
-        bay.new
+    ensures linked { IsLinked (bay_view B.Disk.device B.Link.state B.holdings B.asks_disk
+        B.asks_reading B.asks_key B.asks_links) (serving words.now) bay.old bay.new
         (λ cause links. HandsBack B.Disk.device volume.disk (none_came cause links)
         (outcome_of result))
         (λ begun. RanAs B.Disk.device B.Link.state words.now.converts volume (seals_of
@@ -306,8 +303,9 @@ fn hand_back<'w, D: Disk, L>(
 /// Ends without a volume, and says why.
 fn ended_unopened<'w, D: Disk, L>(alloc: Global, unopened: Unopened<D>) -> Ended<'w, D, L>
     ensures status { result.status ≡ status_of result.cause }
-    ensures outcome { outcome_of result ≡ ended_unopened unopened.refusal unopened.header
-        unopened.disk (D.device unopened.disk).faults }
+    ensures outcome { outcome_of result
+        ≡ ended_refused (cause_of_refusal unopened.refusal (D.device unopened.disk).faults)
+        (Some (VolumeRefusal.Opening unopened.refusal)) unopened.header unopened.disk }
 {
     let Unopened {
         header,

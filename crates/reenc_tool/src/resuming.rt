@@ -1,20 +1,16 @@
 // `resume`: the conversion that is under way of the volume on a disk is led to its end.
 
-ghost use Rattle.std.specs.Prelude.{◌≡◌, ◌≤◌, ◌+◌, ◌++◌, [], length, option_map, Some};
+ghost use Rattle.std.specs.Prelude.{◌≡◌, ◌≤◌, ◌+◌, ◌++◌, [], length, option_map, None, Some};
 ghost use Rattle.std.specs.Prelude.{string_bytes, string_capacity, string_len};
 ghost use Rattle.command_line.specs.Resumes.{resuming};
 ghost use Rattle.command_line.specs.Values.{IsAtomSize};
-ghost use Rattle.reenc_tool.specs.Outcomes.{ended_by, none_came, outcome_of};
-ghost use Rattle.reenc_tool.specs.Resuming.{
-  AsksForKey,
-  ComesToResume,
-  HasResumed,
-  ended_unresumed,
-  finished_line,
-};
+ghost use Rattle.reenc_tool.specs.Asking.{UnderKey, bay_view};
+ghost use Rattle.reenc_tool.specs.Outcomes.{ended_refused, ended_with, outcome_of};
+ghost use Rattle.reenc_tool.specs.Resuming.{ComesToResume, HasResumed, finished_line};
 ghost use Rattle.reenc_tool.specs.Status.{cause_of_conversion, cause_of_end, cause_of_resume};
 ghost use Rattle.reenc_tool.specs.Status.{cause_of_unfit, status_of};
 ghost use Rattle.reenc_tool.specs.declared.ended.Cause.TheVariants.{Fine};
+ghost use Rattle.reenc_tool.specs.declared.volume_refusal.VolumeRefusal.{VolumeRefusal};
 
 use crate::commands::{cause_by, unserved};
 use crate::ended::{Cause, Ended, Failing, Fit, Sessions};
@@ -151,8 +147,9 @@ fn finished_line(room: String, blocks: u64) -> String
 /// Ends a command that opened no volume of which a conversion is under way, and says why.
 pub fn ended_unresumed<'w, D: Disk, L>(alloc: Global, refused: Refused<D>) -> Ended<'w, D, L>
     ensures status { result.status ≡ status_of result.cause }
-    ensures outcome { outcome_of result ≡ ended_unresumed refused.refusal refused.header
-        refused.disk (D.device refused.disk).faults }
+    ensures outcome { outcome_of result
+        ≡ ended_refused (cause_of_resume refused.refusal (D.device refused.disk).faults)
+        (Some (VolumeRefusal.Resuming refused.refusal)) refused.header refused.disk }
 {
     let Refused {
         header,
@@ -179,8 +176,8 @@ pub fn ended_unresumed<'w, D: Disk, L>(alloc: Global, refused: Refused<D>) -> En
 fn ended_halted<'w, D: Disk, L>(alloc: Global, halted: Halted<D>) -> Ended<'w, D, L>
     ensures status { result.status ≡ status_of result.cause }
     ensures outcome { outcome_of result
-        ≡ ended_by (none_came (cause_of_end halted.end (D.device halted.disk).faults) [])
-        (Some halted.disk) halted.header }
+        ≡ ended_with (cause_of_end halted.end (D.device halted.disk).faults) (Some halted.disk)
+        halted.header }
 {
     let Halted { header, disk, end } = halted;
     let cause = Cause::of_end(end, disk.faults());
@@ -190,7 +187,7 @@ fn ended_halted<'w, D: Disk, L>(alloc: Global, halted: Halted<D>) -> Ended<'w, D
 /// Ends a command that led a conversion to its end.
 fn ended_finished<'w, D: Disk, L>(alloc: Global, header: Option<D>, disk: D) -> Ended<'w, D, L>
     ensures status { result.status ≡ status_of result.cause }
-    ensures outcome { outcome_of result ≡ ended_by (none_came Fine []) (Some disk) header }
+    ensures outcome { outcome_of result ≡ ended_with Fine (Some disk) header }
 {
     Sessions::none(alloc, Cause::Fine, Vec::new(alloc)).ended(Some(disk), header)
 }
@@ -248,8 +245,11 @@ fn resume_in<'w, R: Threads + Sync, B: Bay, G: Gate>(
     gate: &G,
 ) -> (Ended<'w, B::Disk, B::Link>, Option<String>)
     ensures status { result.0.status ≡ status_of result.0.cause }
-    ensures resumed { AsksForKey B.Disk.device B.holdings B.asks_key (resuming words.now) disk
-        bay.old bay.new (outcome_of result.0) (option_map (λ text. string_bytes text) result.1) }
+    ensures resumed { UnderKey (bay_view B.Disk.device B.Link.state B.holdings B.asks_disk
+        B.asks_reading B.asks_key B.asks_links) (resuming words.now).key_file disk None bay.old
+        bay.new (outcome_of result.0) (option_map (λ text. string_bytes text) result.1)
+        (λ pass. ComesToResume B.Disk.device pass disk (outcome_of result.0)
+        (option_map (λ text. string_bytes text) result.1)) }
 {
     match bay.key(alloc, words.key_file) {
         Ok(pass) => resume_on(rt, alloc, disk, pass.as_slice(), gate),
@@ -271,9 +271,9 @@ pub fn resume<'w, R: Threads + Sync, B: Bay, G: Gate>(
 ) -> (Ended<'w, B::Disk, B::Link>, Option<String>)
     requires { IsAtomSize words.now.atom }
     ensures status { result.0.status ≡ status_of result.0.cause }
-    ensures resumed { HasResumed B.Disk.device B.holdings B.asks_disk B.asks_key
-        (resuming words.now) bay.old bay.new (outcome_of result.0)
-        (option_map (λ text. string_bytes text) result.1) }
+    ensures resumed { HasResumed (bay_view B.Disk.device B.Link.state B.holdings B.asks_disk
+        B.asks_reading B.asks_key B.asks_links) (resuming words.now) bay.old bay.new
+        (outcome_of result.0) (option_map (λ text. string_bytes text) result.1) }
 {
     match bay.disk(alloc, words.disk, words.atom) {
         Ok(disk) => resume_in(rt, alloc, bay, disk, words, gate),

@@ -2,6 +2,7 @@ ghost use Rattle.std.specs.Prelude.{◌≡◌, [], option_map, string_bytes};
 ghost use Rattle.command_line.specs.Commands.{showing};
 ghost use Rattle.command_line.specs.Values.{IsAtomSize};
 ghost use Rattle.header_report.specs.Examinations.{seen};
+ghost use Rattle.reenc_tool.specs.Asking.{bay_view};
 ghost use Rattle.reenc_tool.specs.Outcomes.{Outcome, outcome_of};
 ghost use Rattle.reenc_tool.specs.Showing.{HasShown, report_in, shown};
 ghost use Rattle.reenc_tool.specs.Status.{status_of};
@@ -57,8 +58,9 @@ pub fn show<'w, B: Bay, G: Gate>(
 ) -> (Ended<'w, B::Disk, B::Link>, Option<String>)
     requires { IsAtomSize words.now.atom }
     ensures status { result.0.status ≡ status_of result.0.cause }
-    ensures shown { HasShown B.Disk.device B.holdings B.asks_reading (showing words.now) bay.old
-        bay.new (outcome_of result.0) (option_map (λ text. string_bytes text) result.1) }
+    ensures shown { HasShown (bay_view B.Disk.device B.Link.state B.holdings B.asks_disk
+        B.asks_reading B.asks_key B.asks_links) (showing words.now) bay.old bay.new
+        (outcome_of result.0) (option_map (λ text. string_bytes text) result.1) }
 {
     match bay.disk_to_read(alloc, words.disk, words.atom) {
         Ok(opened) => {

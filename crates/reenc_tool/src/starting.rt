@@ -1,14 +1,13 @@
 // `init`: the conversion of the volume on a disk to a new key is begun.
 
-ghost use Rattle.std.specs.Prelude.{◌≡◌, IfOk, option_map, string_bytes};
+ghost use Rattle.std.specs.Prelude.{◌≡◌, IfOk, None, option_map, string_bytes};
 ghost use Rattle.command_line.specs.Starts.{IsStarting, starting};
 ghost use Rattle.luks_init.specs.Wishes.{IsWish};
-ghost use Rattle.reenc_tool.specs.Outcomes.{outcome_of};
+ghost use Rattle.reenc_tool.specs.Asking.{UnderKey, bay_view};
+ghost use Rattle.reenc_tool.specs.Outcomes.{ended_refused, outcome_of};
 ghost use Rattle.reenc_tool.specs.Starting.{
-  AsksForKey,
   ComesToStart,
   HasStarted,
-  ended_unstarted,
   guard_of,
   opening_refusal,
   started_line,
@@ -141,8 +140,9 @@ fn opening_refusal(refusal: Refusal) -> Option<VolumeRefusal>
 /// Ends a command that began no conversion.
 fn ended_unstarted<'w, D: Disk, L>(alloc: Global, unstarted: Unstarted<D>) -> Ended<'w, D, L>
     ensures status { result.status ≡ status_of result.cause }
-    ensures outcome { outcome_of result ≡ ended_unstarted unstarted.refusal unstarted.disk
-        (D.device unstarted.disk).faults }
+    ensures outcome { outcome_of result
+        ≡ ended_refused (cause_of_start unstarted.refusal (D.device unstarted.disk).faults)
+        (opening_refusal unstarted.refusal) None unstarted.disk }
 {
     let Unstarted { disk, refusal } = unstarted;
     let cause = Cause::of_start(&refusal, disk.faults());
@@ -207,9 +207,11 @@ fn start_in<'w, B: Bay, G: Gate>(
     requires words { IsStarting (starting words.now) }
     requires atom { (B.Disk.device disk).size ≡ (starting words.now).atom }
     ensures status { result.0.status ≡ status_of result.0.cause }
-    ensures started { AsksForKey B.Disk.device B.holdings B.asks_key (starting words.now) seed.now
-        disk bay.old bay.new (outcome_of result.0)
-        (option_map (λ text. string_bytes text) result.1) }
+    ensures started { UnderKey (bay_view B.Disk.device B.Link.state B.holdings B.asks_disk
+        B.asks_reading B.asks_key B.asks_links) (starting words.now).key_file disk None bay.old
+        bay.new (outcome_of result.0) (option_map (λ text. string_bytes text) result.1)
+        (λ pass. ComesToStart B.Disk.device (starting words.now) pass seed.now disk
+        (outcome_of result.0) (option_map (λ text. string_bytes text) result.1)) }
 {
     match bay.key(alloc, words.key_file) {
         Ok(pass) => start_on(alloc, disk, words, pass.as_slice(), seed, gate),
@@ -232,8 +234,9 @@ pub fn start<'w, B: Bay, R: Seeds, G: Gate>(
 ) -> (Ended<'w, B::Disk, B::Link>, Option<String>)
     requires { IsStarting (starting words.now) }
     ensures status { result.0.status ≡ status_of result.0.cause }
-    ensures started { HasStarted B.Disk.device B.holdings B.asks_disk B.asks_key
-        (starting words.now) (R.supply seeds.old) (R.supply seeds.new) bay.old bay.new
+    ensures started { HasStarted (bay_view B.Disk.device B.Link.state B.holdings B.asks_disk
+        B.asks_reading B.asks_key B.asks_links) (starting words.now)
+        (R.supply seeds.old) (R.supply seeds.new) bay.old bay.new
         (outcome_of result.0) (option_map (λ text. string_bytes text) result.1) }
 {
     let mut seed = [0; 32];

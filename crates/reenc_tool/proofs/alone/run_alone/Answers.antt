@@ -1,6 +1,7 @@
 use Rattle.std.proofs.Common.{map, option_map, refl, subst}
 use Rattle.std.specs.Prelude.{string_bytes}
 use Rattle.reenc_tool.specs.Alone.{CameAlone}
+use Rattle.reenc_tool.specs.Asking.{bay_view}
 use Rattle.reenc_tool.specs.Outcomes.{Outcome}
 use Rattle.reenc_tool.proofs.alone.run_alone.Goals as goal
 
@@ -10,9 +11,9 @@ returns-in-Ended-clause-run g c =
       c.in-Ended.ended.cause,
       report,
       c.print_end.ensures.cause,
-      subst (λ (o : Outcome _ _). CameAlone g.B.Disk.Disk.device g.B.Bay.holdings g.B.Bay.asks_disk
-          g.B.Bay.asks_reading g.B.Bay.asks_key (map string_bytes c.args.words.now)
-          (g.R.Seeds.supply c.args.seeds.now) (g.R.Seeds.supply c.execute.new.seeds) c.args.bay.now
+      subst (λ (o : Outcome _ _). CameAlone (bay_view g.B.Disk.Disk.device g.B.Link.Link.state
+          g.B.Bay.holdings g.B.Bay.asks_disk g.B.Bay.asks_reading g.B.Bay.asks_key
+          g.B.Bay.asks_links) (map string_bytes c.args.words.now) (g.R.Seeds.supply c.args.seeds.now) (g.R.Seeds.supply c.execute.new.seeds) c.args.bay.now
           c.execute.new.bay o report) c.print_end.ensures.rest c.in-Ended.ensures.came,
       c.print_end.ensures.text,
     )

@@ -2,6 +2,7 @@ use Rattle.std.proofs.Common.{None, inl, inr, option_map, subst}
 use Rattle.std.specs.Prelude.{string_bytes, vec_len}
 use Rattle.command_line.specs.Commands.{serving}
 use Rattle.command_line.specs.Demonstrations.{demonstrating}
+use Rattle.reenc_tool.specs.Asking.{bay_view}
 use Rattle.reenc_tool.specs.Demonstrating.{HasDemonstrated}
 use Rattle.reenc_tool.specs.Ending.{EndsAs}
 use Rattle.reenc_tool.specs.Outcomes.{Outcome, outcome_of}
@@ -28,12 +29,14 @@ returns-in-Serve-clause-run g c =
       inl (
         serving c.in-Serve.words,
         back.asked_is,
-        subst (λ (o : Outcome _ _). Serviced g.B.Disk.Disk.device g.B.Link.Link.state g.B.Bay.holdings
-            g.B.Bay.asks_disk g.B.Bay.asks_key g.B.Bay.asks_links (serving c.in-Serve.words)
-            c.args.bay.now c.serve-ended.new.bay o None) c.print_end.ensures.rest
-            (subst (λ bay. Serviced g.B.Disk.Disk.device g.B.Link.Link.state g.B.Bay.holdings
-            g.B.Bay.asks_disk g.B.Bay.asks_key g.B.Bay.asks_links (serving c.in-Serve.words) bay
-            c.serve-ended.new.bay (outcome_of ended) None) back.bay c.serve-ended.ensures.serviced),
+        subst (λ (o : Outcome _ _). Serviced (bay_view g.B.Disk.Disk.device g.B.Link.Link.state
+            g.B.Bay.holdings g.B.Bay.asks_disk g.B.Bay.asks_reading g.B.Bay.asks_key
+            g.B.Bay.asks_links) (serving c.in-Serve.words) c.args.bay.now c.serve-ended.new.bay o
+            None) c.print_end.ensures.rest
+            (subst (λ bay. Serviced (bay_view g.B.Disk.Disk.device g.B.Link.Link.state
+            g.B.Bay.holdings g.B.Bay.asks_disk g.B.Bay.asks_reading g.B.Bay.asks_key
+            g.B.Bay.asks_links) (serving c.in-Serve.words) bay c.serve-ended.new.bay
+            (outcome_of ended) None) back.bay c.serve-ended.ensures.serviced),
       ),
       subst (λ out. Prints (g.O.Sink.outlet out) after (text_of ended.cause told.cause
           (said None (sessions_in (λ list. vec_len list) told.sessions.items)))) put

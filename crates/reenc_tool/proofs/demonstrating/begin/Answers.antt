@@ -1,8 +1,8 @@
 use Rattle.std.proofs.Common.{inl, inr, option_map, refl, subst}
 use Rattle.std.specs.Prelude.{string_bytes}
 use Rattle.command_line.specs.Starts.{Starting}
-use Rattle.demo_clients.specs.DemoBays.{asks_demo_disk, asks_demo_key, demo_holdings, ram_device}
 use Rattle.io_edge.specs.Memory.{supply_of}
+use Rattle.reenc_tool.specs.Demonstrating.{demo_view}
 use Rattle.reenc_tool.specs.Outcomes.{outcome_of}
 use Rattle.reenc_tool.specs.Starting.{HasStarted}
 use Rattle.reenc_tool.proofs.demonstrating.begin.Goals as goal
@@ -15,7 +15,7 @@ returns-then-not-is_fine-clause-begun g c = record {
   new = c.start-started.new.bay;
   started = outcome_of c.start-started.result.0;
   said = option_map (λ text. string_bytes text) c.start-started.result.1;
-  is = subst (λ (w : Starting). HasStarted ram_device demo_holdings asks_demo_disk asks_demo_key w
+  is = subst (λ (w : Starting). HasStarted demo_view w
       (supply_of c.args.seeds.now) (supply_of c.start-started.new.seeds) c.args.bay.now c.start-started.new.bay
       (outcome_of c.start-started.result.0) (option_map (λ text. string_bytes text) c.start-started.result.1))
       c.init_words.ensures.words c.start-started.ensures.started;
@@ -34,7 +34,7 @@ returns-clause-begun g c = record {
   new = c.start-started.new.bay;
   started = outcome_of c.start-started.result.0;
   said = option_map (λ text. string_bytes text) c.start-started.result.1;
-  is = subst (λ (w : Starting). HasStarted ram_device demo_holdings asks_demo_disk asks_demo_key w
+  is = subst (λ (w : Starting). HasStarted demo_view w
       (supply_of c.args.seeds.now) (supply_of c.start-started.new.seeds) c.args.bay.now c.start-started.new.bay
       (outcome_of c.start-started.result.0) (option_map (λ text. string_bytes text) c.start-started.result.1))
       c.init_words.ensures.words c.start-started.ensures.started;

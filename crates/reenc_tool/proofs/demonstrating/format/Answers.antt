@@ -1,8 +1,8 @@
 use Rattle.std.proofs.Common.{inl, inr, option_map, refl, subst}
 use Rattle.std.specs.Prelude.{string_bytes}
 use Rattle.command_line.specs.Formats.{Formatting}
-use Rattle.demo_clients.specs.DemoBays.{asks_demo_disk, asks_demo_key, demo_holdings, ram_device}
 use Rattle.io_edge.specs.Memory.{supply_of}
+use Rattle.reenc_tool.specs.Demonstrating.{demo_view}
 use Rattle.reenc_tool.specs.Outcomes.{outcome_of}
 use Rattle.reenc_tool.specs.Making.{HasMade}
 use Rattle.reenc_tool.proofs.demonstrating.format.Goals as goal
@@ -15,7 +15,7 @@ returns-then-not-is_fine-clause-formatted g c = record {
   new = c.make-made.new.bay;
   made = outcome_of c.make-made.result.0;
   said = option_map (λ text. string_bytes text) c.make-made.result.1;
-  is = subst (λ (w : Formatting). HasMade ram_device demo_holdings asks_demo_disk asks_demo_key w
+  is = subst (λ (w : Formatting). HasMade demo_view w
       (supply_of c.args.setting.first) (supply_of c.make-made.new.seeds) c.args.setting.bay c.make-made.new.bay
       (outcome_of c.make-made.result.0) (option_map (λ text. string_bytes text) c.make-made.result.1))
       c.format_words.ensures.words c.make-made.ensures.made;
@@ -34,7 +34,7 @@ returns-clause-formatted g c = record {
   new = c.make-made.new.bay;
   made = outcome_of c.make-made.result.0;
   said = option_map (λ text. string_bytes text) c.make-made.result.1;
-  is = subst (λ (w : Formatting). HasMade ram_device demo_holdings asks_demo_disk asks_demo_key w
+  is = subst (λ (w : Formatting). HasMade demo_view w
       (supply_of c.args.setting.first) (supply_of c.make-made.new.seeds) c.args.setting.bay c.make-made.new.bay
       (outcome_of c.make-made.result.0) (option_map (λ text. string_bytes text) c.make-made.result.1))
       c.format_words.ensures.words c.make-made.ensures.made;

@@ -75,8 +75,8 @@ returns-in-Ok-clause-ended g c =
       at_rest = λ first told begun ran fine few. idle-at-rest runs rest g.B.Disk.Disk.device
           g.B.Link.Link.state c.args.disk pass lanes volume by geometry
           (λ bytes is. own.whole c.args.disk bytes is) _ first told begun ran fine few;
-      linked = linked_so _ _ _ _ _ _ _ _ _ (λ begun ran. ran_as_it_is _ _ _ volume _ begun _ by.fresh
-          ran) c.serve_opened.ensures.linked;
+      linked = linked_so _ _ _ _ _ _ _ _ c.serve_opened.ensures.linked
+          (λ begun ran. ran_as_it_is _ _ _ volume _ begun _ by.fresh ran);
     })))
     (λ taken. inr (inr (inr (record {
       sector = _;
@@ -93,9 +93,9 @@ returns-in-Ok-clause-ended g c =
           keeps-beside laws device pass lanes volume taken geometry first old_key new_key content stood
           deeds are known;
       again_for = again-for laws passes device pass lanes volume taken geometry;
-      linked = linked_so _ _ _ _ _ _ _ _ _ (λ begun ran. ran-midway laws passes g.B.Disk.Disk.device _
-          c.args.disk pass lanes volume taken geometry begun _
-          c.args.words.now.converts ran) c.serve_opened.ensures.linked;
+      linked = linked_so _ _ _ _ _ _ _ _ c.serve_opened.ensures.linked
+          (λ begun ran. ran-midway laws passes g.B.Disk.Disk.device _ c.args.disk pass lanes volume
+          taken geometry begun _ c.args.words.now.converts ran);
     }))))
     (rw c.lanes_for.ensures at c.in-Ok.ensures.opened)
 
