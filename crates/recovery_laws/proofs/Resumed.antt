@@ -28,6 +28,8 @@ pub mod GuardLemmas
 pub mod SlotLemmas
 pub mod PassLemmas
 pub mod KeptSlots
+pub mod FrontLemmas
+pub mod RoomLemmas
 pub mod MendedSlots
 pub mod OpenForLemmas
 pub mod TakenForLemmas

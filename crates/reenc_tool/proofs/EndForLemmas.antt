@@ -23,7 +23,7 @@ use Rattle.reenc_tool.specs.TakenUp.{IsLedToEnd, RanMidway}
 use Rattle.reenc_tool.specs.Volumes.{RanAs}
 use Rattle.reenc_tool.specs.declared.ended.Cause.TheVariants.{Fine}
 use Rattle.resume_disk.specs.Resuming.{IsOpenedMidway}
-use Rattle.recovery_laws.specs.Resumed.Chaining.{IsOneDisk}
+use Rattle.recovery_laws.specs.Resumed.Chaining.{AreDisks}
 use Rattle.recovery_laws.specs.Resumed.Starts.{BeginsBehind, volume_seals}
 use Rattle.sector_cipher.specs.declared.disk.DiskCipher.{DiskCipher}
 use Rattle.sector_disk.specs.Devices.{Device}
@@ -59,18 +59,18 @@ module _ {sector : DiskCipher Aes → ℕ} {sealed opened : DiskCipher Aes → �
     -- what the law says of the state behind the deeds, of the state that is left
     stands-in : (content : List (List ℕ)) (bytes : List ℕ) (s : StandsFor here pass bytes content)
         (b : BeginsBehind sector sealed opened here last lanes s.old s.new bytes volume)
-        → IsOneDisk here volume.disk → IsSaved b.now.conversion.resilience
+        → AreDisks here volume.disk → IsSaved b.now.conversion.resilience
         → (final : State VolumeKeys) → state_after volume served.deeds ≡ final
         → IsLedToEnd here last volume final → final.broken ≡ false
         → ((lane : ℕ) → IsClient volume lane → open_at final.lanes lane ≡ None)
         → StandsForNewest here pass volume.map.atom content (untagged served.operations) final.disk
-    stands-in content bytes s b one saved final same =
+    stands-in content bytes s b disks saved final same =
         subst (λ (v : State VolumeKeys). IsLedToEnd here last volume v → v.broken ≡ false
         → ((lane : ℕ) → IsClient volume lane → open_at v.lanes lane ≡ None)
         → StandsForNewest here pass volume.map.atom content (untagged served.operations) v.disk) same
         (λ done unbroken free.
         passes.ended here last lanes pass bytes volume content served.deeds
-        (untagged served.operations) s b one saved served.did.are
+        (untagged served.operations) s b disks saved served.did.are
         (laws.untagged_are (reading_of here) (volume_seals sealed opened volume) volume served.final
         served.deeds served.operations served.did) unbroken free done)
 

@@ -15,7 +15,7 @@ use Rattle.reenc_worker.specs.declared.ends.WorkerEnd.{WorkerEnd}
 use Rattle.reenc_worker.specs.declared.ends.WorkerEnd.TheVariants.{Finished}
 use Rattle.resume_disk.specs.Resuming.{HasRun}
 use Rattle.recovery_laws.proofs.Resumed.ResumeLemmas.{told-first}
-use Rattle.recovery_laws.specs.Resumed.Chaining.{GoesOnIn, IsOneDisk, StopsStandAgain}
+use Rattle.recovery_laws.specs.Resumed.Chaining.{AreDisks, GoesOnIn, StopsStandAgain}
 use Rattle.recovery_laws.specs.Resumed.Openings.{IsKnownBehind, OpeningsKeepContent, OpensOn}
 use Rattle.recovery_laws.specs.Resumed.Passphrases.{AreGiven, FinishedConversionsStandFor, IsTakenUpFor}
 use Rattle.recovery_laws.specs.Resumed.Passphrases.{StandsAgainFor, StopsStandForPassphrases}
@@ -67,14 +67,13 @@ module _ {C D : Type 0} {sector : C → ℕ} {sealed opened : C → ℕ → List
     knows-run first content told stands =
         laws.keys (device disk) pass first 1 run.volume content run.resumed told stands
 
-    one-disk : IsDisk (device disk).size (device disk).atoms → IsOneDisk sizes run.volume.disk
+    one-disk : IsDisk (device disk).size (device disk).atoms → AreDisks sizes run.volume.disk
     one-disk geometry =
         let has = run.resumed.is_read.sizes_are in
         let all = has.all in
         let atoms : (device disk).atoms ≡ run.volume.disk.atoms = omega (arith, all) in
         record {
           has = has;
-          alone = refl;
           disk = subst (λ (n : ℕ). IsDisk run.volume.disk.size n) atoms
               (subst (λ (n : ℕ). IsDisk n (device disk).atoms) has.atom geometry);
         }

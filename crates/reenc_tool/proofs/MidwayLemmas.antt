@@ -19,7 +19,7 @@ use Rattle.reenc_tool.specs.TakenUp.{IsLedToEnd}
 use Rattle.reenc_tool.specs.declared.ended.Cause.TheVariants.{Fine}
 use Rattle.resume_disk.specs.Resuming.{IsOpenedMidway}
 use Rattle.recovery_laws.proofs.Resumed.ResumeLemmas.{both-dated}
-use Rattle.recovery_laws.specs.Resumed.Chaining.{IsOneDisk}
+use Rattle.recovery_laws.specs.Resumed.Chaining.{AreDisks}
 use Rattle.recovery_laws.specs.Resumed.Openings.{IsKnownBehind, OpeningsKeepContent, OpensOn}
 use Rattle.recovery_laws.specs.Resumed.Resuming.{IsTakenUp, TakenUpConversionsBegin}
 use Rattle.recovery_laws.specs.Resumed.Starts.{BegunConversionsStart, layout_on, volume_seals}
@@ -118,14 +118,13 @@ module _ {C : Type 0} {sector : C → ℕ} {sealed opened : C → ℕ → List �
       order = taken.order;
     }
 
-    pub one-disk : IsOneDisk sizes volume.disk
+    pub one-disk : AreDisks sizes volume.disk
     one-disk =
         let has = taken.is_read.sizes_are in
         let all = has.all in
         let atoms : device.atoms ≡ volume.disk.atoms = omega (arith, all) in
         record {
           has = has;
-          alone = refl;
           disk = subst (λ (n : ℕ). IsDisk volume.disk.size n) atoms
               (subst (λ (n : ℕ). IsDisk n device.atoms) has.atom geometry);
         }

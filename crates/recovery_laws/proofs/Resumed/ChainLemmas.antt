@@ -1,10 +1,8 @@
 -- Wherever the worker of a volume stops that was taken up again each image stands for the content by its
 -- own header, as the next opening begins with it.
-use Rattle.std.proofs.Common.{◌≡◌, ◌⊎◌, ◌∙◌, ◌+◌, ◌*◌, ◌++◌, ◌<◌, ◌%◌, inl, inr, ℕ, Bool, List, []}
-use Rattle.std.proofs.Common.{length, replicate, None, Some, Ok, ap, arith, refl, subst, sym}
-use Rattle.std.proofs.Common.{if◌then◌else◌}
+use Rattle.std.proofs.Common.{◌≡◌, ◌⊎◌, ◌∙◌, ◌*◌, ◌++◌, ◌<◌, ◌%◌, inl, inr, ℕ, List, [], length}
+use Rattle.std.proofs.Common.{replicate, None, Some, Ok, ap, arith, refl, subst, sym}
 use Rattle.std.proofs.Math.Nat.{mul-le-mul_right}
-use Rattle.std.proofs.lemmas.List.{take_all}
 use Rattle.base_terms.specs.Blocks.{joined, lengths}
 use Rattle.crash_laws.specs.HeaderAreas.Areas.{content_of}
 use Rattle.crash_laws.specs.HeaderAreas.Commits.{MayBe}
@@ -23,23 +21,24 @@ use Rattle.luks_store.proofs.CopyLemmas.{Spelt}
 use Rattle.luks_store.specs.Devices.{front_of}
 use Rattle.luks_store.specs.Promises.{GivenIsUsed}
 use Rattle.luks_store.specs.declared.loaded.Stored.{Stored}
-use Rattle.image_laws.proofs.Opened.AtomLemmas.{long-joined}
 use Rattle.plain_disk.specs.Plain.{settled_blocks}
 use Rattle.reenc_meta.proofs.GoLemmas.{under-way}
 use Rattle.reenc_recovery.specs.Images.{StandsUnder}
 use Rattle.reenc_recovery.specs.Keys.{IsKeyOf}
 use Rattle.reenc_worker.specs.declared.ends.WorkAnswer.{WorkAnswer}
 use Rattle.recovery_laws.proofs.Resumed.AgainLemmas.{TellsKeys}
+use Rattle.recovery_laws.proofs.Resumed.FrontLemmas.{gives-in-front}
 use Rattle.recovery_laws.proofs.Resumed.GivenLemmas.{held-parts}
 use Rattle.recovery_laws.proofs.Resumed.GuardLemmas.{not-shifted}
 use Rattle.recovery_laws.proofs.Resumed.KeptLemmas.{KeepsSize, size-kept}
 use Rattle.recovery_laws.proofs.Resumed.RangeLemmas.{on-one-side}
 use Rattle.recovery_laws.proofs.Resumed.ResumeLemmas.{both-dated}
+use Rattle.recovery_laws.proofs.Resumed.RoomLemmas.{room-behind}
 use Rattle.recovery_laws.proofs.Resumed.SaysLemmas.{SidesTellKeys, says-again}
 use Rattle.recovery_laws.proofs.Resumed.StartLemmas.{IsPlaced, placed, ruled}
 use Rattle.recovery_laws.proofs.Resumed.WorkerDeeds.{AreWorks, HasWork, deeds-front, exchanges-none}
 use Rattle.recovery_laws.proofs.Resumed.WorkerDeeds.{works-front, works-stay}
-use Rattle.recovery_laws.specs.Resumed.Chaining.{IsOneDisk, StandsAgain, StopsStandAgain}
+use Rattle.recovery_laws.specs.Resumed.Chaining.{AreDisks, StandsAgain, StopsStandAgain}
 use Rattle.recovery_laws.specs.Resumed.Resuming.{both_of}
 use Rattle.recovery_laws.specs.Resumed.Runs.{StopsKeepContent}
 use Rattle.recovery_laws.specs.Resumed.Starts.{BeginsBehind, BegunConversionsStart, layout_on, volume_seals}
@@ -94,7 +93,7 @@ module _ {C : Type 0} {sector : C → ℕ} {sealed opened : C → ℕ → List �
     (laws : ChainLaws sector sealed opened) (sizes : Sizes) (header : Stored) (lanes : ℕ)
     (old_key new_key bytes : List ℕ) (volume : State (Keys C)) (content : List (List ℕ))
     (b : BeginsBehind sector sealed opened sizes header lanes old_key new_key bytes volume)
-    (stands : StandsUnder sizes old_key new_key bytes content) (one : IsOneDisk sizes volume.disk)
+    (stands : StandsUnder sizes old_key new_key bytes content) (disks : AreDisks sizes volume.disk)
     (guarded : IsSaved b.now.conversion.resilience) where
   abbrev reading : Reading
   reading = reading_of sizes
@@ -162,9 +161,9 @@ module _ {C : Type 0} {sector : C → ℕ} {sealed opened : C → ℕ → List �
 
   pub some-block : 0 < volume.map.blocks
   some-block =
-      let fits = one.disk.fits in
-      let has = one.has.main in
-      let atom = one.has.atom in
+      let fits = disks.disk.fits in
+      let has = disks.has.main in
+      let atom = disks.has.atom in
       let fewer = mul-le-mul_right sizes.atom has in
       let whole : volume.disk.atoms * sizes.atom ≡ volume.disk.atoms * volume.disk.size =
       ap (λ n. volume.disk.atoms * n) atom in
@@ -279,26 +278,13 @@ module _ {C : Type 0} {sector : C → ℕ} {sealed opened : C → ℕ → List �
         subst (λ (n : ℕ). lengths image ≡ replicate n sizes.atom) cells
         (subst (λ (a : ℕ). lengths image ≡ replicate (length told.now) a) atom-here taken.whole)
 
-    header-atoms : sizes.header_atoms ≡ here.disk.atoms
-    header-atoms =
-        let all = subst (λ (d : Bool).
-        (if d then sizes.header_atoms else 0) + sizes.main_atoms ≡ volume.disk.atoms) one.alone
-        one.has.all in
-        let main = one.has.alone one.alone in
-        let kept = size.atoms in
-        omega (arith, all, main, kept)
-
-    front : front_of sizes (joined image) ≡ joined image
-    front =
-        let long = long-joined sizes.atom here.disk.atoms image even in
-        let bytes_are : header_bytes sizes ≡ here.disk.atoms * sizes.atom =
-        ap (λ n. n * sizes.atom) header-atoms in
-        take_all (header_bytes sizes) (joined image) (omega (arith, long, bytes_are))
-
+    -- both copies of the header lie on its own disk
     pub gives : Gives header_reader (front_of sizes (joined image)) by.header
     gives =
-        subst (λ (text : List ℕ). Gives header_reader text by.header) (whole-text ∙ sym front)
-        by.gives
+        gives-in-front header_reader laws.reader (joined image) (header_bytes sizes) by.header
+        (room-behind laws.spelt sizes header lanes old_key new_key bytes volume b disks starts.0.at_rest
+        earlier are has.0 has.1 by.header may)
+        (subst (λ (text : List ℕ). Gives header_reader text by.header) whole-text by.gives)
 
     -- ---- what it stands for
     count-here : here.map.blocks ≡ length content
@@ -330,7 +316,7 @@ module _ {C : Type 0} {sector : C → ℕ} {sealed opened : C → ℕ → List �
 
 pub stops-stand : {C : Type 0} {sector : C → ℕ} {sealed opened : C → ℕ → List ℕ → List ℕ}
     → ChainLaws sector sealed opened → StopsStandAgain sector sealed opened
-stops-stand laws sizes header lanes old_key new_key bytes volume after content answers b stands one
+stops-stand laws sizes header lanes old_key new_key bytes volume after content answers b stands disks
     guarded worked earlier later parts told told_is image taken =
-    again laws sizes header lanes old_key new_key bytes volume content b stands one guarded after
+    again laws sizes header lanes old_key new_key bytes volume content b stands disks guarded after
     answers worked earlier later parts told told_is image taken

@@ -1,9 +1,8 @@
 -- Once a conversion was led to its end the bytes of its disk stand, under the passphrase, for what they stood
 -- for before it was taken up.
-use Rattle.std.proofs.Common.{◌≡◌, ◌∙◌, ◌+◌, ◌*◌, ◌++◌, ◌<◌, inl, inr, ℕ, zero, suc, Bool, true, false, List}
+use Rattle.std.proofs.Common.{◌≡◌, ◌∙◌, ◌+◌, ◌*◌, ◌++◌, ◌<◌, inl, inr, ℕ, zero, suc, true, false, List}
 use Rattle.std.proofs.Common.{length, replicate, None, Some, Ok, ap, arith, drop, refl, subst, sym}
-use Rattle.std.proofs.Common.{if◌then◌else◌}
-use Rattle.std.proofs.lemmas.List.{drop-drop, drop_all, take-append-drop, take_all}
+use Rattle.std.proofs.lemmas.List.{drop-drop, drop_all, take-append-drop}
 use Rattle.base_terms.proofs.BlockLemmas.{joined-blocks_of, lengths-blocks_of}
 use Rattle.base_terms.specs.Blocks.{blocks_of, joined, lengths}
 use Rattle.crash_laws.specs.HeaderAreas.Areas.{content_of, text_from}
@@ -26,15 +25,17 @@ use Rattle.reenc_recovery.specs.Placings.{RestsIn}
 use Rattle.reenc_worker.specs.declared.ends.WorkerEnd.TheVariants.{Finished}
 use Rattle.recovery_laws.proofs.Resumed.AgainLemmas.{TellsKeys, none-some, rest-again}
 use Rattle.recovery_laws.proofs.Resumed.ChainLemmas.{ChainLaws, lawful, new-is, old-is, some-block, starts}
+use Rattle.recovery_laws.proofs.Resumed.FrontLemmas.{gives-in-front}
 use Rattle.recovery_laws.proofs.Resumed.GivenLemmas.{loaded, ruled}
 use Rattle.recovery_laws.proofs.Resumed.GuardLemmas.{not-shifted}
 use Rattle.recovery_laws.proofs.Resumed.KeptLemmas.{KeepsSize, size-kept}
 use Rattle.recovery_laws.proofs.Resumed.KeptSlots.{bytes-for, first-parts, first-valid, kept-bytes}
 use Rattle.recovery_laws.proofs.Resumed.OpenForLemmas.{ForLaws}
 use Rattle.recovery_laws.proofs.Resumed.ResumeLemmas.{known-first}
+use Rattle.recovery_laws.proofs.Resumed.RoomLemmas.{only-work, room-behind}
 use Rattle.recovery_laws.proofs.Resumed.StopLemmas.{atom-at}
 use Rattle.recovery_laws.proofs.Resumed.TakenForLemmas.{SlotLaws, begins-for, given-by}
-use Rattle.recovery_laws.specs.Resumed.Chaining.{IsOneDisk, StandsAgain}
+use Rattle.recovery_laws.specs.Resumed.Chaining.{AreDisks, StandsAgain}
 use Rattle.recovery_laws.specs.Resumed.Passphrases.{FinishedConversionsStandFor}
 use Rattle.recovery_laws.specs.Resumed.Passphrases.{StandsAgainFor}
 use Rattle.recovery_laws.specs.Resumed.Resuming.{TakenUpConversionsBegin}
@@ -86,16 +87,13 @@ some-size : {atom : ℕ} → IsAtom atom → 0 < atom
 some-size (inl is) = rw is (omega arith)
 some-size (inr is) = rw is (omega arith)
 
-only-work : {work other : Work} {o : _} → o ≡ Some work → o ≡ Some other → work ≡ other
-only-work {work} {other} {o} is also = (let e : Some work ≡ Some other = sym is ∙ also in cc)
-
 module _ {C : Type 0} {sector : C → ℕ} {sealed opened : C → ℕ → List ℕ → List ℕ}
     (chain : ChainLaws sector sealed opened) (slots : SlotLaws C)
     (runs : ConversionsKeepContent C) (sizes : Sizes) (header : Stored) (lanes : ℕ)
     (pass bytes : List ℕ) (volume after : State (Keys C)) (content : List (List ℕ))
     (s : StandsFor sizes pass bytes content)
     (b : BeginsBehind sector sealed opened sizes header lanes s.old s.new bytes volume)
-    (one : IsOneDisk sizes volume.disk) (saved : IsSaved b.now.conversion.resilience)
+    (disks : AreDisks sizes volume.disk) (saved : IsSaved b.now.conversion.resilience)
     (done : HasConverted (reading_of sizes) (volume_seals sealed opened volume)
     (layout_on sizes header) (header_on header) volume after Finished) where
   abbrev reading : Reading
@@ -107,7 +105,7 @@ module _ {C : Type 0} {sector : C → ℕ} {sealed opened : C → ℕ → List �
   at-rest : volume.work
       ≡ Some (resting (layout_on sizes header) (header_on header) converting)
   at-rest =
-      (starts chain sizes header lanes s.old s.new bytes volume content b s.stands one saved).0.at_rest
+      (starts chain sizes header lanes s.old s.new bytes volume content b s.stands disks saved).0.at_rest
 
   abbrev ends : IsConverted reading (layout_on sizes header) (header_on header) volume done.worked.deeds
       after
@@ -120,7 +118,7 @@ module _ {C : Type 0} {sector : C → ℕ} {sealed opened : C → ℕ → List �
   holds =
       runs reading seals (layout_on sizes header) (header_on header) volume after content bytes
       chain.reader refl
-      (starts chain sizes header lanes s.old s.new bytes volume content b s.stands one saved).0 done
+      (starts chain sizes header lanes s.old s.new bytes volume content b s.stands disks saved).0 done
 
   parts : parts_in (header_on header).means ≡ Ok header.valid.meta
   parts = first-parts sizes header lanes s.old s.new bytes volume b at-rest chain.spelt slots.areas
@@ -164,23 +162,16 @@ module _ {C : Type 0} {sector : C → ℕ} {sealed opened : C → ℕ → List �
   even : lengths image ≡ replicate after.disk.atoms sizes.atom
   even = lengths-blocks_of sizes.atom after.disk.atoms holds.now long
 
-  front : front_of sizes holds.now ≡ holds.now
-  front =
-      let all = subst (λ (d : Bool).
-      (if d then sizes.header_atoms else 0) + sizes.main_atoms ≡ volume.disk.atoms) one.alone
-      one.has.all in
-      let main = one.has.alone one.alone in
-      let kept = size.atoms in
-      let same : sizes.header_atoms ≡ after.disk.atoms = omega (arith, all, main, kept) in
-      let bytes_are : header_bytes sizes ≡ after.disk.atoms * sizes.atom =
-      ap (λ n. n * sizes.atom) same in
-      take_all (header_bytes sizes) holds.now (let l = long in omega (arith, l, bytes_are))
-
+  -- both copies of the last header lie on its own disk
   gives : Gives header_reader (front_of sizes holds.now) by
   gives =
-      subst (λ (text : List ℕ). Gives header_reader text by)
+      gives-in-front header_reader chain.reader holds.now (header_bytes sizes) by
+      (room-behind chain.spelt sizes header lanes s.old s.new bytes volume b disks at-rest
+      done.worked.deeds done.worked.are (resting (layout_on sizes header) ends.header complete)
+      (ap (λ (state : State (Keys C)). state.work) done.worked.last ∙ ends.at_end) by refl)
+      (subst (λ (text : List ℕ). Gives header_reader text by)
       (ap (λ a. content_of after.disk.atoms (λ place. block_at a holds.now place)) atom-here
-      ∙ content-is sizes.atom after.disk.atoms holds.now long ∙ sym front) holds.gives
+      ∙ content-is sizes.atom after.disk.atoms holds.now long) holds.gives)
 
   gives-image : Gives header_reader (front_of sizes (joined image)) by
   gives-image =
@@ -244,20 +235,20 @@ module _ {C : Type 0} {sector : C → ℕ} {sealed opened : C → ℕ → List �
       go (inl (c, c_known, is)) = absurd (none-some none c_known)
       go (inr (rests, (v, idle, is))) =
           rest-again sector sealed opened sizes known-atom volume.keys
-          (lawful chain sizes header lanes s.old s.new bytes volume content b s.stands one saved)
+          (lawful chain sizes header lanes s.old s.new bytes volume content b s.stands disks saved)
           last-work image after.disk.atoms after.map.blocks even (value_in content) content holds.count
-          (let first = some-block chain sizes header lanes s.old s.new bytes volume content b s.stands one
+          (let first = some-block chain sizes header lanes s.old s.new bytes volume content b s.stands disks
           saved in let all = size.blocks in omega (arith, first, all))
           (λ k below. refl) by (ap (λ (m : Map). m.blocks) (sym map-is))
           (λ k below. subst (λ (m : Map).
           BlockStands reading m here-seals last-work (value_in image) (value_in content) k) map-is
           (block-stands k below)) chain.spelt chain.given gives-image header.valid.meta b.now s.old s.new
-          (old-is chain sizes header lanes s.old s.new bytes volume content b s.stands one saved)
-          (new-is chain sizes header lanes s.old s.new bytes volume content b s.stands one saved) b.keys
+          (old-is chain sizes header lanes s.old s.new bytes volume content b s.stands disks saved)
+          (new-is chain sizes header lanes s.old s.new bytes volume content b s.stands disks saved) b.keys
           told.meta told.parts told.valid none v idle
           (ap (λ (e : Extent). e.encryption) (sym is) ∙ told.encryption)
           (subst (λ (e : Extent). IsKeyOf told.meta e s.new) is
-          (told.key s.new (new-is chain sizes header lanes s.old s.new bytes volume content b s.stands one
+          (told.key s.new (new-is chain sizes header lanes s.old s.new bytes volume content b s.stands disks
           saved)))
 
   -- ---- under the passphrase
@@ -290,9 +281,9 @@ pub finished-for : {C : Type 0} {sector : C → ℕ} {sealed opened : C → ℕ 
     → ForLaws sector sealed opened → TakenUpConversionsBegin sector sealed opened
     → ChainLaws sector sealed opened → SlotLaws C → ConversionsKeepContent C
     → FinishedConversionsStandFor sector sealed opened
-finished-for laws begins chain slots runs sizes handed lanes old volume after pass content r one done
+finished-for laws begins chain slots runs sizes handed lanes old volume after pass content r disks done
     known =
     let start = begins-for laws begins sizes handed lanes old volume pass content r
     (known-first r.is.found.header done.worked known) in
     ended-for chain slots runs sizes r.is.led.last lanes pass start.now volume after content start.stands
-    start.begins one start.saved done
+    start.begins disks start.saved done

@@ -119,7 +119,7 @@ module _ {C : Type 0} {sector : C → ℕ} {sealed opened : C → ℕ → List �
       (held-parts spelt sizes (front_of sizes bytes) stored b.holds.holds.held).rules
 
   -- ---- where the copies lie
-  size-is : size_in (header_on header).means ≡ stored.copies.used.header.hdr_size
+  pub size-is : size_in (header_on header).means ≡ stored.copies.used.header.hdr_size
   size-is =
       let used = copies-stored sizes (front_of sizes bytes) stored b.holds.holds.held in
       let (place, at) = stands-used spelt (front_of sizes bytes) stored.copies used in
@@ -127,7 +127,7 @@ module _ {C : Type 0} {sector : C → ℕ} {sealed opened : C → ℕ → List �
       ∙ sized-by place stored.copies.used
       (copy-whole spelt place (drop place (front_of sizes bytes)) stored.copies.used at)
 
-  begin : areas_begin header.valid.meta.config ≡ 2 * stored.copies.used.header.hdr_size
+  pub begin : areas_begin header.valid.meta.config ≡ 2 * stored.copies.used.header.hdr_size
   begin =
       sym (ap (λ (m : Parts). areas_begin m.config) meta-is)
       ∙ areas sizes (front_of sizes bytes) stored b.holds.holds.held

@@ -239,7 +239,7 @@ module _ {C : Type 0} {sector : C → ℕ} {sealed opened : C → ℕ → List �
             vain-leads stands later old new cause tells lawful header held cells values found read first
             mended next by at (subst (λ (h : Stored). MayGoOn h → ⊥) same busy) table
             (subst (λ (h : Stored). IsSparedTurn sizes h next cells values) same spared)
-    by-going (at_work lanes old volume after answers values tells is order one worked earlier later parts
+    by-going (at_work lanes old volume after answers values tells is order disks worked earlier later parts
         told told_is taken left) =
         let r : IsTakenUpFor sector sealed opened sizes handed lanes old volume pass content = record {
           first = between;
@@ -253,7 +253,7 @@ module _ {C : Type 0} {sector : C → ℕ} {sealed opened : C → ℕ → List �
         (inr (told-first earlier later worked parts told told_is)) in
         subst Left (sym left)
         (stops-for chain slots sizes is.led.last lanes pass start.now volume after content answers
-        start.stands start.begins one start.saved worked earlier later parts told told_is values taken)
+        start.stands start.begins disks start.saved worked earlier later parts told told_is values taken)
 
   -- ---- it was at its end
   module _ (stands : StandsFor sizes pass between content) (rested : RestsIn sizes between)
@@ -309,7 +309,7 @@ module _ {C : Type 0} {sector : C → ℕ} {sealed opened : C → ℕ → List �
         go (unsynced same_sizes call by) at = absurd at
         go (only_read same_sizes run) at = absurd at
         go (not_led_on found read first by) at = none-found old tells found
-    by-resting (at_work lanes old volume after answers values tells is order one worked earlier later
+    by-resting (at_work lanes old volume after answers values tells is order disks worked earlier later
         parts told told_is taken left) = none-found old tells is.found
 
 -- ---- any number of times

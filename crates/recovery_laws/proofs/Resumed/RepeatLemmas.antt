@@ -169,7 +169,7 @@ module _ {C : Type 0} {sector : C → ℕ} {sealed opened : C → ℕ → List �
         subst Left (sym left)
         (mending-again sizes old_key new_key content header next led.1 (joined_disk old) mended
         (joined_disk new) led.0 busy cells values table spared)
-    by-going (at_work lanes old volume after answers values tells is order one worked earlier
+    by-going (at_work lanes old volume after answers values tells is order disks worked earlier
         later parts told told_is taken left) =
         let r : IsTakenUp sector sealed opened sizes handed lanes old volume content = record {
           first = between;
@@ -182,7 +182,7 @@ module _ {C : Type 0} {sector : C → ℕ} {sealed opened : C → ℕ → List �
         let (now, stands_now, b, saved) = begins sizes handed lanes old volume content r
         (inr (told-first earlier later worked parts told told_is)) in
         subst Left (sym left)
-        (stops sizes is.led.last lanes old_key new_key now volume after content answers b stands_now one
+        (stops sizes is.led.last lanes old_key new_key now volume after content answers b stands_now disks
         saved worked earlier later parts told told_is values taken)
 
   -- ---- it was at its end
@@ -266,7 +266,7 @@ module _ {C : Type 0} {sector : C → ℕ} {sealed opened : C → ℕ → List �
       by-resting (in_vain_at_mending later old new cause header next mended cells values tells lawful
           held is leads busy table spared left) =
           none-leads later old new cause mended next tells is leads
-      by-resting (at_work lanes old volume after answers values tells is order one worked earlier
+      by-resting (at_work lanes old volume after answers values tells is order disks worked earlier
           later parts told told_is taken left) = none-found old tells is.found
 
 -- ---- any number of times

@@ -29,7 +29,7 @@ use Rattle.recovery_laws.proofs.Resumed.KeptSlots.{first-parts, image-for}
 use Rattle.recovery_laws.proofs.Resumed.OpenForLemmas.{ForLaws, closed-both, keys, led-keys}
 use Rattle.recovery_laws.proofs.Resumed.OpenForLemmas.{now-bytes, now-keys, opens}
 use Rattle.recovery_laws.proofs.Resumed.OpeningLemmas.{no-zone, some-zone}
-use Rattle.recovery_laws.specs.Resumed.Chaining.{IsOneDisk}
+use Rattle.recovery_laws.specs.Resumed.Chaining.{AreDisks}
 use Rattle.recovery_laws.specs.Resumed.Openings.{IsKnownBehind}
 use Rattle.recovery_laws.specs.Resumed.Passphrases.{IsTakenUpFor, StandsAgainFor}
 use Rattle.recovery_laws.specs.Resumed.Passphrases.{TakenUpConversionsBeginFor}
@@ -237,20 +237,20 @@ pub stops-for : {C : Type 0} {sector : C → ℕ} {sealed opened : C → ℕ →
     (lanes : ℕ) (pass bytes : List ℕ) (volume after : State (Keys C)) (content : List (List ℕ))
     (answers : List WorkAnswer) (s : StandsFor sizes pass bytes content)
     (b : BeginsBehind sector sealed opened sizes header lanes s.old s.new bytes volume)
-    → IsOneDisk sizes volume.disk → IsSaved b.now.conversion.resilience
+    → AreDisks sizes volume.disk → IsSaved b.now.conversion.resilience
     → (worked : HasWorked (reading_of sizes) (volume_seals sealed opened volume) volume after answers)
     → (earlier later : List (Deed (Keys C))) → worked.deeds ≡ earlier ++ later → (told : Told)
     → (state_after volume earlier).disk.told ≡ Some told → (image : List (List ℕ))
     → IsTaken (reading_of sizes) (state_after volume earlier)
     (handed_over volume (both_of (header_on header)) earlier) told.now image
     → StandsAgainFor sizes pass (joined image) content
-stops-for {C} {sector} {sealed} {opened} chain slots sizes header lanes pass bytes volume after content answers s b one saved worked
+stops-for {C} {sector} {sealed} {opened} chain slots sizes header lanes pass bytes volume after content answers s b disks saved worked
     earlier later parts told told_is image taken_is =
     let given = given-by sizes header lanes pass bytes volume content s b in
-    let start = starts chain sizes header lanes s.old s.new bytes volume content b s.stands one saved in
-    let deeds = are chain sizes header lanes s.old s.new bytes volume content b s.stands one saved after
+    let start = starts chain sizes header lanes s.old s.new bytes volume content b s.stands disks saved in
+    let deeds = are chain sizes header lanes s.old s.new bytes volume content b s.stands disks saved after
     answers worked earlier later parts told told_is image taken_is in
-    let by_here = by chain sizes header lanes s.old s.new bytes volume content b s.stands one saved after
+    let by_here = by chain sizes header lanes s.old s.new bytes volume content b s.stands disks saved after
     answers worked earlier later parts told told_is image taken_is in
     image-for sizes header lanes s.old s.new bytes volume b start.0.at_rest chain.spelt slots.areas
     (state_after volume earlier)
@@ -261,15 +261,15 @@ stops-for {C} {sector} {sealed} {opened} chain slots sizes header lanes pass byt
     (first-parts sizes header lanes s.old s.new bytes volume b start.0.at_rest chain.spelt slots.areas)
     b.known) ∙ shifts)) deeds)
     slots.told slots.given chain.given pass given.0 given.1 by_here.header
-    (λ work at. (alone chain sizes header lanes s.old s.new bytes volume content b s.stands one saved
+    (λ work at. (alone chain sizes header lanes s.old s.new bytes volume content b s.stands disks saved
     after answers worked earlier later parts told told_is image taken_is).3 work at by_here.header
     by_here.gives)
-    (says chain sizes header lanes s.old s.new bytes volume content b s.stands one saved after answers
+    (says chain sizes header lanes s.old s.new bytes volume content b s.stands disks saved after answers
     worked earlier later parts told told_is image taken_is) content told told_is image
     (state_after volume earlier).disk.atoms taken_is.is
-    (even chain sizes header lanes s.old s.new bytes volume content b s.stands one saved after answers
+    (even chain sizes header lanes s.old s.new bytes volume content b s.stands disks saved after answers
     worked earlier later parts told told_is image taken_is)
-    (gives chain sizes header lanes s.old s.new bytes volume content b s.stands one saved after answers
+    (gives chain sizes header lanes s.old s.new bytes volume content b s.stands disks saved after answers
     worked earlier later parts told told_is image taken_is)
-    (again chain sizes header lanes s.old s.new bytes volume content b s.stands one saved after answers
+    (again chain sizes header lanes s.old s.new bytes volume content b s.stands disks saved after answers
     worked earlier later parts told told_is image taken_is)

@@ -1,10 +1,8 @@
 -- Wherever deeds of a conversion stop that clients use meanwhile each image stands by its own header for a
 -- content that is allowed.
-use Rattle.std.proofs.Common.{◌≡◌, ◌⊎◌, ◌∙◌, ◌+◌, ◌*◌, ◌<◌, ◌%◌, ◌∷◌, inl, inr, ℕ, Bool, List, []}
-use Rattle.std.proofs.Common.{length, replicate, None, Some, Ok, ap, arith, refl, subst, sym}
-use Rattle.std.proofs.Common.{if◌then◌else◌}
+use Rattle.std.proofs.Common.{◌≡◌, ◌⊎◌, ◌∙◌, ◌+◌, ◌*◌, ◌≤◌, ◌<◌, ◌%◌, inl, inr, ℕ, List, length}
+use Rattle.std.proofs.Common.{replicate, None, Some, Ok, ap, arith, refl, subst, sym}
 use Rattle.std.proofs.Math.Nat.{mul-le-mul_right}
-use Rattle.std.proofs.lemmas.List.{take_all}
 use Rattle.base_terms.specs.Blocks.{joined, lengths}
 use Rattle.crash_laws.specs.HeaderAreas.Areas.{content_of}
 use Rattle.crash_laws.specs.HeaderAreas.Commits.{MayBe}
@@ -23,19 +21,20 @@ use Rattle.luks_store.proofs.CopyLemmas.{Spelt}
 use Rattle.luks_store.specs.Devices.{front_of}
 use Rattle.luks_store.specs.Promises.{GivenIsUsed}
 use Rattle.luks_store.specs.declared.loaded.Stored.{Stored}
-use Rattle.image_laws.proofs.Opened.AtomLemmas.{long-joined}
 use Rattle.plain_disk.specs.Plain.{Block, Exchange, Legal, settled_blocks}
 use Rattle.reenc_meta.proofs.GoLemmas.{under-way}
 use Rattle.reenc_recovery.specs.Images.{StandsUnder}
 use Rattle.reenc_recovery.specs.Keys.{IsKeyOf}
 use Rattle.recovery_laws.proofs.Resumed.AgainLemmas.{TellsKeys}
+use Rattle.recovery_laws.proofs.Resumed.FrontLemmas.{gives-in-front}
 use Rattle.recovery_laws.proofs.Resumed.GivenLemmas.{held-parts}
 use Rattle.recovery_laws.proofs.Resumed.GuardLemmas.{not-shifted}
 use Rattle.recovery_laws.proofs.Resumed.RangeLemmas.{on-one-side}
 use Rattle.recovery_laws.proofs.Resumed.ResumeLemmas.{both-dated}
+use Rattle.recovery_laws.proofs.Resumed.RoomLemmas.{room-behind}
 use Rattle.recovery_laws.proofs.Resumed.SaysLemmas.{SidesTellKeys, says-again}
 use Rattle.recovery_laws.proofs.Resumed.StartLemmas.{IsPlaced, placed, ruled}
-use Rattle.recovery_laws.specs.Resumed.Chaining.{IsOneDisk, StandsAgain}
+use Rattle.recovery_laws.specs.Resumed.Chaining.{AreDisks, StandsAgain}
 use Rattle.recovery_laws.specs.Resumed.Resuming.{both_of}
 use Rattle.recovery_laws.specs.Resumed.Starts.{BeginsBehind, BegunConversionsStart, layout_on, volume_seals}
 use Rattle.sector_disk.specs.Geometry.{IsAtom}
@@ -50,14 +49,13 @@ use Rattle.volume_laws.specs.Standing.{BlockStands, Content, StandsByHeader}
 use Rattle.volume_laws.specs.Standing.{StandsUnder as MachineStands}
 use Rattle.volume_laws.specs.Telling.{Tells, TellsBeside}
 use Rattle.volume_machine.specs.Answers.{AreExchanges}
-use Rattle.volume_machine.specs.Deeds.{Act, AreDeeds, Deed, Does, answered_over, client, plain_over}
-use Rattle.volume_machine.specs.Deeds.{state_after, worker}
+use Rattle.volume_machine.specs.Deeds.{AreDeeds, Deed, answered_over, plain_over, state_after}
 use Rattle.volume_machine.specs.Readings.{Reading}
 use Rattle.volume_machine.specs.Runs.{no_plain}
 use Rattle.volume_machine.specs.Seals.{AreLawful, Seals, seals_of}
 use Rattle.volume_machine.specs.States.{State}
 use Rattle.volume_machine.specs.Working.{HasRoom}
-use Rattle.volume_machine.specs.Works.{converting, resting}
+use Rattle.volume_machine.specs.Works.{Work, converting, resting}
 use Rattle.volume_machine.specs.declared.keys.Keys.{Keys}
 use Rattle.volume_laws.specs.WorkerRuns.Leaving.{DeedsLeaveTheRest, SaysAs, SaysItEnds}
 use Rattle.hotzone.proofs.ZoneEvents.TellLemmas.{guard-told}
@@ -68,10 +66,8 @@ use Rattle.volume_laws.proofs.BesideServing.{Failures.deeds_same, Legals.legal_o
 use Rattle.volume_laws.proofs.BesideServing.Stops.{HasWork, work_over}
 use Rattle.recovery_laws.proofs.Served.ValueLemmas.{length-from, value-from, values-from}
 use Rattle.recovery_laws.specs.Served.Again.{DeedsStandAgain, StandsBeside}
-use Rattle.volume_laws.proofs.HoldersKept.{atoms_kept}
 use Rattle.volume_laws.specs.Contents.{IsAllowedAt}
 use Rattle.volume_laws.specs.Converting.{IsServedBeside}
-use Rattle.volume_machine.proofs.EventEffects.{event_effects}
 
 -- the laws that this stands on
 pub record StopLaws {C : Type 0} (sector : C → ℕ) (sealed opened : C → ℕ → List ℕ → List ℕ)
@@ -95,26 +91,11 @@ pub record StopLaws {C : Type 0} (sector : C → ℕ) (sealed opened : C → ℕ
   pub given : GivenIsUsed
   pub sides : SidesTellKeys
 
--- a disk keeps its atoms
-module _ {K : Type 0} (reading : Reading) (seals : Seals) where
-  atoms_on : (old new : State K) (act : Act) → Does reading seals old act new
-      → new.disk.atoms ≡ old.disk.atoms
-  atoms_on old new (client event outcome) (meets, step) =
-      (event_effects old new event outcome step).disk.atoms
-  atoms_on old new (worker worked) step = atoms_kept step
-
-  atoms_over : (old : State K) (deeds : List (Deed K)) → AreDeeds reading seals old deeds
-      → (state_after old deeds).disk.atoms ≡ old.disk.atoms
-  unfolding AreDeeds state_after
-  atoms_over old [] are = refl
-  atoms_over old (one ∷ rest) (does, are) =
-      atoms_over one.after rest are ∙ atoms_on old one.after one.act does
-
 module _ {C : Type 0} {sector : C → ℕ} {sealed opened : C → ℕ → List ℕ → List ℕ}
     (laws : StopLaws sector sealed opened) (sizes : Sizes) (header : Stored) (lanes : ℕ)
     (old_key new_key bytes : List ℕ) (volume : State (Keys C)) (content : List (List ℕ))
     (b : BeginsBehind sector sealed opened sizes header lanes old_key new_key bytes volume)
-    (stands : StandsUnder sizes old_key new_key bytes content) (one : IsOneDisk sizes volume.disk)
+    (stands : StandsUnder sizes old_key new_key bytes content) (disks : AreDisks sizes volume.disk)
     (guarded : IsSaved b.now.conversion.resilience) where
   abbrev reading : Reading
   reading = reading_of sizes
@@ -191,9 +172,9 @@ module _ {C : Type 0} {sector : C → ℕ} {sealed opened : C → ℕ → List �
 
   pub some-block : 0 < volume.map.blocks
   some-block =
-      let fits = one.disk.fits in
-      let has = one.has.main in
-      let atom = one.has.atom in
+      let fits = disks.disk.fits in
+      let has = disks.has.main in
+      let atom = disks.has.atom in
       let fewer = mul-le-mul_right sizes.atom has in
       let whole : volume.disk.atoms * sizes.atom ≡ volume.disk.atoms * volume.disk.size =
       ap (λ n. volume.disk.atoms * n) atom in
@@ -227,15 +208,14 @@ module _ {C : Type 0} {sector : C → ℕ} {sealed opened : C → ℕ → List �
     pub atom-here : here.map.atom ≡ sizes.atom
     atom-here = same-size.atom ∙ b.map.atom
 
-    -- all of the disk is in front
-    pub header-atoms : sizes.header_atoms ≡ here.disk.atoms
-    header-atoms =
-        let all = subst (λ (d : Bool).
-        (if d then sizes.header_atoms else 0) + sizes.main_atoms ≡ volume.disk.atoms) one.alone
-        one.has.all in
-        let main = one.has.alone one.alone in
-        let kept = atoms_over reading seals volume deeds are in
-        omega (arith, all, main, kept)
+    -- both copies of a header that a stop may leave lie on its own disk
+    pub room-here : (work : Work) → here.work ≡ Some work → (one : List ℕ)
+        → MayBe (stage_of work.phase) (from_of work.zone work.phase).means
+        (to_of work.zone work.phase).means one
+        → 2 * header_reader.size one ≤ header_bytes sizes
+    room-here =
+        room-behind laws.spelt sizes header lanes old_key new_key bytes volume b disks starts.0.at_rest
+        deeds are
 
     pub served : IsServedBeside (StartsCertain (layout_on sizes header) (header_on header) volume seals
         (settled_blocks content)) volume seals (settled_blocks content) deeds exchanges
@@ -317,17 +297,11 @@ module _ {C : Type 0} {sector : C → ℕ} {sealed opened : C → ℕ → List �
           subst (λ (n : ℕ). lengths image ≡ replicate n sizes.atom) cells
           (subst (λ (a : ℕ). lengths image ≡ replicate (length told.now) a) atom-here taken.whole)
 
-      front : front_of sizes (joined image) ≡ joined image
-      front =
-          let long = long-joined sizes.atom here.disk.atoms image even in
-          let bytes_are : header_bytes sizes ≡ here.disk.atoms * sizes.atom =
-          ap (λ n. n * sizes.atom) header-atoms in
-          take_all (header_bytes sizes) (joined image) (omega (arith, long, bytes_are))
-
       pub gives : Gives header_reader (front_of sizes (joined image)) by.header
       gives =
-          subst (λ (text : List ℕ). Gives header_reader text by.header) (whole-text ∙ sym front)
-          by.gives
+          gives-in-front header_reader laws.reader (joined image) (header_bytes sizes) by.header
+          (room-here has.0 has.1 by.header may)
+          (subst (λ (text : List ℕ). Gives header_reader text by.header) whole-text by.gives)
 
       -- ---- what it stands for
       -- the values of its blocks
@@ -379,7 +353,7 @@ module _ {C : Type 0} {sector : C → ℕ} {sealed opened : C → ℕ → List �
 
 pub deeds-stand : {C : Type 0} {sector : C → ℕ} {sealed opened : C → ℕ → List ℕ → List ℕ}
     → StopLaws sector sealed opened → DeedsStandAgain sector sealed opened
-deeds-stand laws sizes header lanes old_key new_key bytes volume content deeds exchanges b stands one
+deeds-stand laws sizes header lanes old_key new_key bytes volume content deeds exchanges b stands disks
     guarded are answered =
-    stands-beside laws sizes header lanes old_key new_key bytes volume content b stands one guarded deeds
+    stands-beside laws sizes header lanes old_key new_key bytes volume content b stands disks guarded deeds
     exchanges are answered

@@ -2,7 +2,7 @@
 -- newest values that their operations leave.
 use Rattle.std.proofs.Common.{◌≡◌, ◌∙◌, ◌*◌, ◌<◌, inl, inr, ℕ, true, false, List, length, replicate, None}
 use Rattle.std.proofs.Common.{[], Some, ap, arith, refl, subst, sym}
-use Rattle.std.proofs.lemmas.List.{get_or-map, length-map, take_all}
+use Rattle.std.proofs.lemmas.List.{get_or-map, length-map}
 use Rattle.base_terms.proofs.BlockLemmas.{joined-blocks_of, lengths-blocks_of}
 use Rattle.base_terms.specs.Blocks.{blocks_of, joined, lengths}
 use Rattle.volume_laws.specs.BesideConverted.Ends.{ConvertedVolumesHoldNewest, HoldsNewest}
@@ -27,11 +27,13 @@ use Rattle.reenc_recovery.specs.Images.{StandsFor}
 use Rattle.reenc_recovery.specs.Keys.{IsKeyOf}
 use Rattle.recovery_laws.proofs.Resumed.AgainLemmas.{TellsKeys, none-some, rest-again}
 use Rattle.recovery_laws.proofs.Resumed.EndForLemmas.{content-is}
+use Rattle.recovery_laws.proofs.Resumed.FrontLemmas.{gives-in-front}
 use Rattle.recovery_laws.proofs.Resumed.GivenLemmas.{loaded, ruled}
 use Rattle.recovery_laws.proofs.Resumed.KeptSlots.{bytes-for, kept-bytes}
+use Rattle.recovery_laws.proofs.Resumed.RoomLemmas.{only-work}
 use Rattle.recovery_laws.proofs.Resumed.StopLemmas.{atom-at}
 use Rattle.recovery_laws.proofs.Resumed.TakenForLemmas.{SlotLaws, given-by}
-use Rattle.recovery_laws.specs.Resumed.Chaining.{IsOneDisk, StandsAgain}
+use Rattle.recovery_laws.specs.Resumed.Chaining.{AreDisks, StandsAgain}
 use Rattle.recovery_laws.specs.Resumed.Passphrases.{StandsAgainFor}
 use Rattle.recovery_laws.specs.Resumed.Starts.{BeginsBehind, layout_on, volume_seals}
 use Rattle.segment_map.specs.Maps.{place_on}
@@ -39,7 +41,7 @@ use Rattle.segment_map.specs.declared.Side.{Side}
 use Rattle.segment_map.specs.declared.Side.TheVariants.{New, Zone}
 use Rattle.segment_map.specs.declared.map.Map.{Map}
 use Rattle.recovery_laws.proofs.Served.AgainLemmas.{StopLaws, atom-here, first-parts, first-valid, guard-first}
-use Rattle.recovery_laws.proofs.Served.AgainLemmas.{header-atoms, known-atom, lawful, new-is, old-is}
+use Rattle.recovery_laws.proofs.Served.AgainLemmas.{known-atom, lawful, new-is, old-is, room-here}
 use Rattle.recovery_laws.proofs.Served.AgainLemmas.{seals-here, some-atom, some-block, starts}
 use Rattle.volume_laws.specs.Contents.{block_in}
 use Rattle.volume_laws.specs.Converting.{StartsUnder}
@@ -59,16 +61,13 @@ use Rattle.hotzone.specs.ZoneEvents.Heads.{header_on}
 use Rattle.hotzone.specs.ZoneEvents.Readings.{reading_of}
 use Rattle.hotzone.specs.ZoneEvents.Sides.{IsSideOf}
 
-only-work : {work other : Work} {o : _} → o ≡ Some work → o ≡ Some other → work ≡ other
-only-work {work} {other} {o} is also = (let e : Some work ≡ Some other = sym is ∙ also in cc)
-
 module _ {C : Type 0} {sector : C → ℕ} {sealed opened : C → ℕ → List ℕ → List ℕ}
     (laws : StopLaws sector sealed opened) (slots : SlotLaws C) (sizes : Sizes) (header : Stored)
     (lanes : ℕ) (pass bytes : List ℕ) (volume : State (Keys C)) (content : List (List ℕ))
     (deeds : List (Deed (Keys C))) (exchanges : List Exchange)
     (s : StandsFor sizes pass bytes content)
     (b : BeginsBehind sector sealed opened sizes header lanes s.old s.new bytes volume)
-    (one : IsOneDisk sizes volume.disk) (saved : IsSaved b.now.conversion.resilience)
+    (disks : AreDisks sizes volume.disk) (saved : IsSaved b.now.conversion.resilience)
     (are : AreDeeds (reading_of sizes) (volume_seals sealed opened volume) volume deeds)
     (answered : AreExchanges (answered_over (volume_seals sealed opened volume) volume no_plain deeds)
     exchanges)
@@ -89,26 +88,26 @@ module _ {C : Type 0} {sector : C → ℕ} {sealed opened : C → ℕ → List �
 
   pub begin : StartsUnder reading (layout_on sizes header) (header_on header) converting volume seals
       (settled_blocks content) bytes
-  begin = (starts laws sizes header lanes s.old s.new bytes volume content b s.stands one saved).0
+  begin = (starts laws sizes header lanes s.old s.new bytes volume content b s.stands disks saved).0
 
   rest : LeavesRest reading (layout_on sizes header) (header_on header).means volume here
   rest =
       slots.leaves reading seals (layout_on sizes header) (header_on header) volume deeds b.order
       begin.at_rest
-      (guard-first laws sizes header lanes s.old s.new bytes volume content b s.stands one saved) are
+      (guard-first laws sizes header lanes s.old s.new bytes volume content b s.stands disks saved) are
 
   atom-is : here.map.atom ≡ sizes.atom
   atom-is =
-      atom-here laws sizes header lanes s.old s.new bytes volume content b s.stands one saved deeds
+      atom-here laws sizes header lanes s.old s.new bytes volume content b s.stands disks saved deeds
       exchanges are answered
 
   -- ---- its header says of the new side what the first one said, and converts nothing
   told : TellsKeys sizes header.valid.meta b.now.new by New
   told =
       laws.sides sizes (header_on header).means by header.valid.meta New b.now.new
-      (some-atom laws sizes header lanes s.old s.new bytes volume content b s.stands one saved)
-      (first-parts laws sizes header lanes s.old s.new bytes volume content b s.stands one saved)
-      (first-valid laws sizes header lanes s.old s.new bytes volume content b s.stands one saved)
+      (some-atom laws sizes header lanes s.old s.new bytes volume content b s.stands disks saved)
+      (first-parts laws sizes header lanes s.old s.new bytes volume content b s.stands disks saved)
+      (first-valid laws sizes header lanes s.old s.new bytes volume content b s.stands disks saved)
       (inl (b.now, b.known, refl)) done.sealing
 
   none : progress_of told.meta sizes ≡ None
@@ -148,19 +147,14 @@ module _ {C : Type 0} {sector : C → ℕ} {sealed opened : C → ℕ → List �
     even : lengths image ≡ replicate here.disk.atoms sizes.atom
     even = lengths-blocks_of sizes.atom here.disk.atoms h.now long
 
-    front : front_of sizes h.now ≡ h.now
-    front =
-        let all : header_bytes sizes ≡ here.disk.atoms * sizes.atom =
-        ap (λ n. n * sizes.atom)
-        (header-atoms laws sizes header lanes s.old s.new bytes volume content b s.stands one saved deeds
-        exchanges are answered) in
-        take_all (header_bytes sizes) h.now (let l = long in omega (arith, l, all))
-
     gives : Gives header_reader (front_of sizes h.now) by
     gives =
-        subst (λ (text : List ℕ). Gives header_reader text by)
+        gives-in-front header_reader laws.reader h.now (header_bytes sizes) by
+        (room-here laws sizes header lanes s.old s.new bytes volume content b s.stands disks saved deeds
+        exchanges are answered (resting (layout_on sizes header) done.header complete) done.at_end by refl)
+        (subst (λ (text : List ℕ). Gives header_reader text by)
         (ap (λ a. content_of here.disk.atoms (λ place. block_at a h.now place)) atom-is
-        ∙ content-is sizes.atom here.disk.atoms h.now long ∙ sym front) h.gives
+        ∙ content-is sizes.atom here.disk.atoms h.now long) h.gives)
 
     text-is : (place : ℕ) → value_in image place ≡ block_at sizes.atom h.now place
     text-is place =
@@ -188,7 +182,7 @@ module _ {C : Type 0} {sector : C → ℕ} {sealed opened : C → ℕ → List �
         ∙ held.1
         ∙ ap (λ (d : Side). seals.sealed d k (block_in left k).newest) side
         ∙ ap (λ (t : Seals). t.sealed New k (block_in left k).newest)
-        (seals-here laws sizes header lanes s.old s.new bytes volume content b s.stands one saved)
+        (seals-here laws sizes header lanes s.old s.new bytes volume content b s.stands disks saved)
         ∙ ap (λ value. by-keys.sealed New k value) (sym (newest-is k below)) in
         record {
           are = subst (λ value. AreBlocks here.map.atom 1 value) (sym (newest-is k below)) held.0;
@@ -205,26 +199,26 @@ module _ {C : Type 0} {sector : C → ℕ} {sealed opened : C → ℕ → List �
         go (inl (c, c_known, is)) = absurd (none-some none c_known)
         go (inr (rests, (v, idle, is))) =
             rest-again sector sealed opened sizes
-            (known-atom laws sizes header lanes s.old s.new bytes volume content b s.stands one saved)
+            (known-atom laws sizes header lanes s.old s.new bytes volume content b s.stands disks saved)
             volume.keys
-            (lawful laws sizes header lanes s.old s.new bytes volume content b s.stands one saved)
+            (lawful laws sizes header lanes s.old s.new bytes volume content b s.stands disks saved)
             last image here.disk.atoms here.map.blocks even (value_in (newest_values left))
             (newest_values left) count
             (let first = some-block laws sizes header lanes s.old s.new bytes volume content b s.stands
-            one saved in let all = done.blocks in omega (arith, first, all))
+            disks saved in let all = done.blocks in omega (arith, first, all))
             (λ k below. refl) by (ap (λ (m : Map). m.blocks) (sym h.map))
             (λ k below. subst (λ (m : Map).
             BlockStands reading m by-keys last (value_in image) (value_in (newest_values left)) k) h.map
             (block-stands k below)) laws.spelt laws.given
             (subst (λ (all : List ℕ). Gives header_reader (front_of sizes all) by) (sym whole) gives)
             header.valid.meta b.now s.old s.new
-            (old-is laws sizes header lanes s.old s.new bytes volume content b s.stands one saved)
-            (new-is laws sizes header lanes s.old s.new bytes volume content b s.stands one saved) b.keys
+            (old-is laws sizes header lanes s.old s.new bytes volume content b s.stands disks saved)
+            (new-is laws sizes header lanes s.old s.new bytes volume content b s.stands disks saved) b.keys
             told.meta told.parts told.valid none v idle
             (ap (λ (e : Extent). e.encryption) (sym is) ∙ told.encryption)
             (subst (λ (e : Extent). IsKeyOf told.meta e s.new) is
             (told.key s.new (new-is laws sizes header lanes s.old s.new bytes volume content b s.stands
-            one saved)))
+            disks saved)))
 
     -- ---- under the passphrase
     either : StandsAgainFor sizes pass h.now (newest_values left)
@@ -246,7 +240,7 @@ module _ {C : Type 0} {sector : C → ℕ} {sealed opened : C → ℕ → List �
           told.parts told.valid in
           let sound = ruled laws.spelt laws.given sizes (front_of sizes h.now) by told.meta gives
           told.parts told.valid
-          (known-atom laws sizes header lanes s.old s.new bytes volume content b s.stands one saved) in
+          (known-atom laws sizes header lanes s.old s.new bytes volume content b s.stands disks saved) in
           let busy = goes _ loads.held in
           none-some none ((sound.busy busy).1).1)
       | inr (stands, rests) ↦ record {
@@ -262,12 +256,12 @@ module _ {C : Type 0} {sector : C → ℕ} {sealed opened : C → ℕ → List �
 pub ends-for-newest : {C : Type 0} {sector : C → ℕ} {sealed opened : C → ℕ → List ℕ → List ℕ}
     → StopLaws sector sealed opened → SlotLaws C → ConvertedVolumesHoldNewest C
     → EndsStandForNewest sector sealed opened
-ends-for-newest {C} {sector} {sealed} {opened} laws slots newest sizes header lanes pass bytes volume content deeds exchanges s b one
+ends-for-newest {C} {sector} {sealed} {opened} laws slots newest sizes header lanes pass bytes volume content deeds exchanges s b disks
     saved are answered unbroken free done =
-    let start = begin laws slots sizes header lanes pass bytes volume content deeds exchanges s b one saved
+    let start = begin laws slots sizes header lanes pass bytes volume content deeds exchanges s b disks saved
     are answered unbroken done in
     let (left, legal, h) = newest (reading_of sizes) (volume_seals sealed opened volume) (layout_on sizes header)
     (header_on header) converting volume (settled_blocks content) bytes deeds exchanges laws.reader refl
     start are answered unbroken free done in
-    stands-newest laws slots sizes header lanes pass bytes volume content deeds exchanges s b one saved are
+    stands-newest laws slots sizes header lanes pass bytes volume content deeds exchanges s b disks saved are
     answered unbroken done left legal h

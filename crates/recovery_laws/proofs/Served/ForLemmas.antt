@@ -11,7 +11,7 @@ use Rattle.reenc_recovery.specs.Images.{StandsFor}
 use Rattle.reenc_recovery.specs.declared.keys.SideKeys.{SideKeys}
 use Rattle.recovery_laws.proofs.Resumed.KeptSlots.{image-for}
 use Rattle.recovery_laws.proofs.Resumed.TakenForLemmas.{SlotLaws, given-by}
-use Rattle.recovery_laws.specs.Resumed.Chaining.{IsOneDisk}
+use Rattle.recovery_laws.specs.Resumed.Chaining.{AreDisks}
 use Rattle.recovery_laws.specs.Resumed.Passphrases.{AreGiven, IsTakenUpFor, StandsAgainFor}
 use Rattle.recovery_laws.specs.Resumed.Passphrases.{StopsStandForPassphrases}
 use Rattle.recovery_laws.specs.Resumed.Passphrases.{TakenUpConversionsBeginFor}
@@ -44,7 +44,7 @@ module _ {C : Type 0} {sector : C → ℕ} {sealed opened : C → ℕ → List �
     (deeds : List (Deed (Keys C))) (exchanges : List Exchange) (left : List Block)
     (s : StandsFor sizes pass bytes content)
     (b : BeginsBehind sector sealed opened sizes header lanes s.old s.new bytes volume)
-    (one : IsOneDisk sizes volume.disk) (saved : IsSaved b.now.conversion.resilience)
+    (disks : AreDisks sizes volume.disk) (saved : IsSaved b.now.conversion.resilience)
     (are : AreDeeds (reading_of sizes) (volume_seals sealed opened volume) volume deeds)
     (answered : AreExchanges (answered_over (volume_seals sealed opened volume) volume no_plain deeds)
     exchanges)
@@ -54,40 +54,40 @@ module _ {C : Type 0} {sector : C → ℕ} {sealed opened : C → ℕ → List �
     (handed_over volume (both_of (header_on header)) deeds) told.now image) where
   abbrev held : List (List ℕ)
   held =
-      values laws sizes header lanes s.old s.new bytes volume content b s.stands one saved deeds
+      values laws sizes header lanes s.old s.new bytes volume content b s.stands disks saved deeds
       exchanges are answered told told_is image taken
 
   stands : StandsAgainFor sizes pass (joined image) held
   stands =
-      let start = starts laws sizes header lanes s.old s.new bytes volume content b s.stands one saved in
+      let start = starts laws sizes header lanes s.old s.new bytes volume content b s.stands disks saved in
       let given = given-by sizes header lanes pass bytes volume content s b in
-      let by_here = by laws sizes header lanes s.old s.new bytes volume content b s.stands one saved deeds
+      let by_here = by laws sizes header lanes s.old s.new bytes volume content b s.stands disks saved deeds
       exchanges are answered told told_is image taken in
-      let of = of-image laws sizes header lanes s.old s.new bytes volume content b s.stands one saved
+      let of = of-image laws sizes header lanes s.old s.new bytes volume content b s.stands disks saved
       deeds exchanges are answered told told_is image taken in
       image-for sizes header lanes s.old s.new bytes volume b start.0.at_rest laws.spelt slots.areas
       (state_after volume deeds)
       (slots.leaves (reading_of sizes) (volume_seals sealed opened volume) (layout_on sizes header)
       (header_on header) volume deeds b.order start.0.at_rest
-      (guard-first laws sizes header lanes s.old s.new bytes volume content b s.stands one saved) are)
+      (guard-first laws sizes header lanes s.old s.new bytes volume content b s.stands disks saved) are)
       slots.told slots.given laws.given pass given.0 given.1 by_here.header
       (λ work at. of.3 work at by_here.header by_here.gives)
-      (says laws sizes header lanes s.old s.new bytes volume content b s.stands one saved deeds exchanges
+      (says laws sizes header lanes s.old s.new bytes volume content b s.stands disks saved deeds exchanges
       are answered told told_is image taken) held told told_is image
       (state_after volume deeds).disk.atoms taken.is
-      (even laws sizes header lanes s.old s.new bytes volume content b s.stands one saved deeds exchanges
+      (even laws sizes header lanes s.old s.new bytes volume content b s.stands disks saved deeds exchanges
       are answered told told_is image taken)
-      (gives laws sizes header lanes s.old s.new bytes volume content b s.stands one saved deeds
+      (gives laws sizes header lanes s.old s.new bytes volume content b s.stands disks saved deeds
       exchanges are answered told told_is image taken)
-      (again laws sizes header lanes s.old s.new bytes volume content b s.stands one saved deeds
+      (again laws sizes header lanes s.old s.new bytes volume content b s.stands disks saved deeds
       exchanges are answered told told_is image taken)
 
   same-left : left
-      ≡ (served laws sizes header lanes s.old s.new bytes volume content b s.stands one saved deeds
+      ≡ (served laws sizes header lanes s.old s.new bytes volume content b s.stands disks saved deeds
       exchanges are answered).left
   same-left =
       legal_one volume.map.atom (settled_blocks content) left _ exchanges legal
-      (served laws sizes header lanes s.old s.new bytes volume content b s.stands one saved deeds
+      (served laws sizes header lanes s.old s.new bytes volume content b s.stands disks saved deeds
       exchanges are answered).legal
 
   pub stopped-for : (now : List (List ℕ)) × StandsAgainFor sizes pass (joined image) now
@@ -98,15 +98,15 @@ module _ {C : Type 0} {sector : C → ℕ} {sealed opened : C → ℕ → List �
     λ k below. subst (λ (blocks : List Block). IsAllowedAt (state_after volume deeds)
         (plain_over (volume_seals sealed opened volume) volume no_plain deeds) blocks k
         (value_in held k)) (sym same-left)
-        (allowed-values laws sizes header lanes s.old s.new bytes volume content b s.stands one saved
+        (allowed-values laws sizes header lanes s.old s.new bytes volume content b s.stands disks saved
         deeds exchanges are answered told told_is image taken k below),
   )
 
 pub deeds-for : {C : Type 0} {sector : C → ℕ} {sealed opened : C → ℕ → List ℕ → List ℕ}
     → StopLaws sector sealed opened → SlotLaws C → DeedsStandAgainFor sector sealed opened
-deeds-for laws slots sizes header lanes pass bytes volume content deeds exchanges left s b one saved are
+deeds-for laws slots sizes header lanes pass bytes volume content deeds exchanges left s b disks saved are
     answered legal told told_is image taken =
-    stopped-for laws slots sizes header lanes pass bytes volume content deeds exchanges left s b one saved
+    stopped-for laws slots sizes header lanes pass bytes volume content deeds exchanges left s b disks saved
     are answered legal told told_is image taken
 
 -- ---- any number of times
@@ -148,9 +148,9 @@ module _ {C : Type 0} {sector : C → ℕ} {sealed opened : C → ℕ → List �
       let (now, s, b, saved) = begins sizes handed used_by.lanes used_by.old used_by.volume pass content r
       (inr (table.before, table.was)) in
       let ran = served laws sizes used_by.is.led.last used_by.lanes s.old s.new now used_by.volume content b
-      s.stands used_by.one saved used_by.deeds used_by.exchanges used_by.are used_by.answered in
+      s.stands used_by.disks saved used_by.deeds used_by.exchanges used_by.are used_by.answered in
       let stopped = stopped-for laws slots sizes used_by.is.led.last used_by.lanes pass now used_by.volume
-      content used_by.deeds used_by.exchanges ran.left s b used_by.one saved used_by.are used_by.answered
+      content used_by.deeds used_by.exchanges ran.left s b used_by.disks saved used_by.are used_by.answered
       ran.legal used_by.told used_by.is_told used_by.values used_by.taken in (
         stopped.0,
         (ran.left, ran.legal, stopped.2),

@@ -1,5 +1,5 @@
 -- What a stop of a conversion leaves, as the next opening begins with it.
-use Rattle.std.specs.Prelude.{ℕ, ◌≡◌, ◌⊎◌, ◌++◌, false, true, List, Some, Ok}
+use Rattle.std.specs.Prelude.{ℕ, ◌≡◌, ◌⊎◌, ◌++◌, true, List, Some, Ok}
 use Rattle.base_terms.specs.Blocks.{joined}
 use Rattle.base_terms.specs.declared.disk_sizes.Sizes.{Sizes}
 use Rattle.hotzone.specs.Sites.{IsSaved}
@@ -39,14 +39,13 @@ StandsAgain sizes old new image content =
     (ImageStandsUnder sizes old new image content × GoesOnIn sizes image)
     ⊎ (StandsUnder sizes new new image content × RestsIn sizes image)
 
--- one disk of these sizes, with header and volume
-pub record IsOneDisk (sizes : Sizes) (device : Device) : Type 0 where
+-- disks of these sizes as one, that of the header and that of the volume, or one disk with both
+pub record AreDisks (sizes : Sizes) (device : Device) : Type 0 where
   pub has : HasSizes sizes device
-  pub alone : sizes.detached ≡ false
   pub disk : IsDisk device.size device.atoms
 
 -- A volume begins behind a header by whose conversion something is saved of the blocks of zones, the old
--- atoms or digests of them, on one disk that stands for a content. Wherever its worker stops each image in
+-- atoms or digests of them, on disks that stand for a content. Wherever its worker stops each image in
 -- which no copy is torn or hidden stands for that content by its own header: so it is one from which the
 -- next opening begins.
 abbrev pub StopsStandAgain : {C : Type 0} → (C → ℕ) → (C → ℕ → List ℕ → List ℕ)
@@ -55,7 +54,7 @@ StopsStandAgain {C} sector sealed opened =
     (sizes : Sizes) (header : Stored) (lanes : ℕ) (old_key new_key bytes : List ℕ)
     (volume after : State (Keys C)) (content : List (List ℕ)) (answers : List WorkAnswer)
     → (begins : BeginsBehind sector sealed opened sizes header lanes old_key new_key bytes volume)
-    → StandsUnder sizes old_key new_key bytes content → IsOneDisk sizes volume.disk
+    → StandsUnder sizes old_key new_key bytes content → AreDisks sizes volume.disk
     → IsSaved begins.now.conversion.resilience
     → (worked : HasWorked (reading_of sizes) (volume_seals sealed opened volume) volume after answers)
     → (earlier later : List (Deed (Keys C))) → worked.deeds ≡ earlier ++ later → (told : Told)

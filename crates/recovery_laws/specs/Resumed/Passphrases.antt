@@ -15,7 +15,7 @@ use Rattle.reenc_recovery.specs.Keys.{key_for, used_by}
 use Rattle.reenc_recovery.specs.Placings.{RestsIn}
 use Rattle.reenc_recovery.specs.declared.keys.SideKeys.{SideKeys}
 use Rattle.reenc_worker.specs.declared.ends.WorkerEnd.TheVariants.{Finished}
-use Rattle.recovery_laws.specs.Resumed.Chaining.{GoesOnIn, IsOneDisk}
+use Rattle.recovery_laws.specs.Resumed.Chaining.{AreDisks, GoesOnIn}
 use Rattle.recovery_laws.specs.Resumed.Openings.{IsKnownBehind}
 use Rattle.recovery_laws.specs.Resumed.Repeating.{MayLeave, Tells}
 use Rattle.recovery_laws.specs.Resumed.Starts.{BeginsBehind, layout_on, volume_seals}
@@ -112,7 +112,7 @@ FinishedConversionsStandFor {C} sector sealed opened =
     (sizes : Sizes) (handed : SideKeys) (lanes : ℕ) (old : Joint) (volume after : State (Keys C))
     (pass : List ℕ) (content : List (List ℕ))
     → (taken : IsTakenUpFor sector sealed opened sizes handed lanes old volume pass content)
-    → IsOneDisk sizes volume.disk
+    → AreDisks sizes volume.disk
     → HasConverted (reading_of sizes) (volume_seals sealed opened volume)
     (layout_on sizes taken.is.led.last) (header_on taken.is.led.last) volume after Finished
     → IsKnownBehind taken.is.found.header after.disk

@@ -18,7 +18,7 @@ use Rattle.luks_store.specs.declared.loaded.Stored.{Stored}
 use Rattle.reenc_recovery.specs.Tables.{IsSpared, ShowsSizes}
 use Rattle.reenc_recovery.specs.declared.keys.SideKeys.{SideKeys}
 use Rattle.reenc_worker.specs.declared.ends.WorkAnswer.{WorkAnswer}
-use Rattle.recovery_laws.specs.Resumed.Chaining.{IsOneDisk, StandsAgain}
+use Rattle.recovery_laws.specs.Resumed.Chaining.{AreDisks, StandsAgain}
 use Rattle.recovery_laws.specs.Resumed.Keeping.{AreHandedIn}
 use Rattle.recovery_laws.specs.Resumed.Resuming.{both_of}
 use Rattle.recovery_laws.specs.Resumed.Starts.{volume_seals}
@@ -129,7 +129,7 @@ pub data MayLeave {C : Type 0} (sector : C → ℕ) (sealed opened : C → ℕ �
   at_work : (lanes : ℕ) (old : Joint) (volume after : State (Keys C)) (answers : List WorkAnswer)
       (values : List (List ℕ)) → Tells sizes old first
       → (is : IsOpenedOf sector sealed opened sizes handed lanes old volume)
-      → IsInOrder (reading_of sizes) volume → IsOneDisk sizes volume.disk
+      → IsInOrder (reading_of sizes) volume → AreDisks sizes volume.disk
       → (worked : HasWorked (reading_of sizes) (volume_seals sealed opened volume) volume after
       answers) → (earlier later : List (Deed (Keys C))) → worked.deeds ≡ earlier ++ later
       → (told : Told) → (state_after volume earlier).disk.told ≡ Some told

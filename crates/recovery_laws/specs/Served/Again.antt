@@ -7,7 +7,7 @@ use Rattle.hotzone.specs.Sites.{IsSaved}
 use Rattle.luks_store.specs.declared.loaded.Stored.{Stored}
 use Rattle.plain_disk.specs.Plain.{Block, Exchange, Legal, settled_blocks}
 use Rattle.reenc_recovery.specs.Images.{StandsUnder}
-use Rattle.recovery_laws.specs.Resumed.Chaining.{IsOneDisk, StandsAgain}
+use Rattle.recovery_laws.specs.Resumed.Chaining.{AreDisks, StandsAgain}
 use Rattle.recovery_laws.specs.Resumed.Resuming.{both_of}
 use Rattle.recovery_laws.specs.Resumed.Starts.{BeginsBehind, volume_seals}
 use Rattle.sector_disk.specs.Steps.{Told}
@@ -40,7 +40,7 @@ pub record StandsBeside {K : Type 0} (sizes : Sizes) (header : Stored) (old_key 
       (value_in held b))
 
 -- So it is behind any deeds of a volume that begins behind a header by whose conversion something is saved
--- of the blocks of zones, the old atoms or digests of them, on one disk that stands for the content.
+-- of the blocks of zones, the old atoms or digests of them, on disks that stand for the content.
 abbrev pub DeedsStandAgain : {C : Type 0} → (C → ℕ) → (C → ℕ → List ℕ → List ℕ)
     → (C → ℕ → List ℕ → List ℕ) → Type 0
 DeedsStandAgain {C} sector sealed opened =
@@ -48,7 +48,7 @@ DeedsStandAgain {C} sector sealed opened =
     (volume : State (Keys C)) (content : List (List ℕ)) (deeds : List (Deed (Keys C)))
     (exchanges : List Exchange)
     → (begins : BeginsBehind sector sealed opened sizes header lanes old_key new_key bytes volume)
-    → StandsUnder sizes old_key new_key bytes content → IsOneDisk sizes volume.disk
+    → StandsUnder sizes old_key new_key bytes content → AreDisks sizes volume.disk
     → IsSaved begins.now.conversion.resilience
     → AreDeeds (reading_of sizes) (volume_seals sealed opened volume) volume deeds
     → AreExchanges (answered_over (volume_seals sealed opened volume) volume no_plain deeds) exchanges

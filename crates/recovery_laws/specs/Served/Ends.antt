@@ -7,7 +7,7 @@ use Rattle.luks_store.specs.declared.loaded.Stored.{Stored}
 use Rattle.plain_disk.specs.Plain.{Block, Exchange, Legal, settled_blocks}
 use Rattle.reenc_recovery.specs.Images.{StandsFor}
 use Rattle.reenc_recovery.specs.Placings.{RestsIn}
-use Rattle.recovery_laws.specs.Resumed.Chaining.{IsOneDisk}
+use Rattle.recovery_laws.specs.Resumed.Chaining.{AreDisks}
 use Rattle.recovery_laws.specs.Resumed.Starts.{BeginsBehind, layout_on, volume_seals}
 use Rattle.sector_disk.specs.Devices.{Device}
 use Rattle.volume_machine.specs.Answers.{AreExchanges}
@@ -35,7 +35,7 @@ pub record StandsForNewest (sizes : Sizes) (pass : List ℕ) (atom : ℕ) (conte
   pub rests : RestsIn sizes now
 
 -- A volume begins behind a header by whose conversion something is saved of the blocks of zones, under the
--- keys that the keyslots give to a passphrase under which its one disk stands for a content. Deeds of
+-- keys that the keyslots give to a passphrase under which its disks stand for a content. Deeds of
 -- clients and of the worker lead the conversion to its end. Where nothing is broken then, and no operation
 -- of a client is under way, the disk stands so.
 abbrev pub EndsStandForNewest : {C : Type 0} → (C → ℕ) → (C → ℕ → List ℕ → List ℕ)
@@ -45,7 +45,7 @@ EndsStandForNewest {C} sector sealed opened =
     (content : List (List ℕ)) (deeds : List (Deed (Keys C))) (exchanges : List Exchange)
     → (stands : StandsFor sizes pass bytes content)
     → (begins : BeginsBehind sector sealed opened sizes header lanes stands.old stands.new bytes volume)
-    → IsOneDisk sizes volume.disk → IsSaved begins.now.conversion.resilience
+    → AreDisks sizes volume.disk → IsSaved begins.now.conversion.resilience
     → AreDeeds (reading_of sizes) (volume_seals sealed opened volume) volume deeds
     → AreExchanges (answered_over (volume_seals sealed opened volume) volume no_plain deeds) exchanges
     → (state_after volume deeds).broken ≡ false

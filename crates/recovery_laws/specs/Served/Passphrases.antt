@@ -11,7 +11,7 @@ use Rattle.luks_store.specs.declared.loaded.Stored.{Stored}
 use Rattle.plain_disk.specs.Plain.{Block, Exchange, Legal, settled_blocks}
 use Rattle.reenc_recovery.specs.Images.{StandsFor}
 use Rattle.reenc_recovery.specs.declared.keys.SideKeys.{SideKeys}
-use Rattle.recovery_laws.specs.Resumed.Chaining.{IsOneDisk}
+use Rattle.recovery_laws.specs.Resumed.Chaining.{AreDisks}
 use Rattle.recovery_laws.specs.Resumed.Passphrases.{AreGiven, StandsAgainFor}
 use Rattle.recovery_laws.specs.Resumed.Repeating.{MayLeave, Tells}
 use Rattle.recovery_laws.specs.Resumed.Resuming.{both_of}
@@ -41,7 +41,7 @@ IsAllowed volume seals deeds left held =
     (value_in held b)
 
 -- A volume begins behind a header by whose conversion something is saved of the blocks of zones, under the
--- keys that the keyslots give to a passphrase under which its one disk stands for a content. Behind any
+-- keys that the keyslots give to a passphrase under which its disks stand for a content. Behind any
 -- deeds of clients and of the worker each image stands, by its own header and under the same passphrase,
 -- for a content that is allowed.
 abbrev pub DeedsStandAgainFor : {C : Type 0} → (C → ℕ) → (C → ℕ → List ℕ → List ℕ)
@@ -51,7 +51,7 @@ DeedsStandAgainFor {C} sector sealed opened =
     (content : List (List ℕ)) (deeds : List (Deed (Keys C))) (exchanges : List Exchange)
     (left : List Block) → (stands : StandsFor sizes pass bytes content)
     → (begins : BeginsBehind sector sealed opened sizes header lanes stands.old stands.new bytes volume)
-    → IsOneDisk sizes volume.disk → IsSaved begins.now.conversion.resilience
+    → AreDisks sizes volume.disk → IsSaved begins.now.conversion.resilience
     → AreDeeds (reading_of sizes) (volume_seals sealed opened volume) volume deeds
     → AreExchanges (answered_over (volume_seals sealed opened volume) volume no_plain deeds) exchanges
     → Legal volume.map.atom (settled_blocks content) exchanges left
@@ -62,7 +62,7 @@ DeedsStandAgainFor {C} sector sealed opened =
     × IsAllowed volume (volume_seals sealed opened volume) deeds left held
 
 -- ---- one time
--- A volume was opened under these keys on one disk that told these bytes, and clients used it while its
+-- A volume was opened under these keys on disks that told these bytes, and clients used it while its
 -- worker led the conversion on, or didn't. It was stopped behind these deeds, and this image is left.
 pub record IsUsed {C : Type 0} (sector : C → ℕ) (sealed opened : C → ℕ → List ℕ → List ℕ)
     (sizes : Sizes) (handed : SideKeys) (first image : List ℕ) : Type 0 where
@@ -72,7 +72,7 @@ pub record IsUsed {C : Type 0} (sector : C → ℕ) (sealed opened : C → ℕ �
   pub tells : Tells sizes old first
   pub is : IsOpenedOf sector sealed opened sizes handed lanes old volume
   pub order : IsInOrder (reading_of sizes) volume
-  pub one : IsOneDisk sizes volume.disk
+  pub disks : AreDisks sizes volume.disk
   pub deeds : List (Deed (Keys C))
   pub are : AreDeeds (reading_of sizes) (volume_seals sealed opened volume) volume deeds
   pub exchanges : List Exchange

@@ -92,9 +92,9 @@ pub fn resumed_conversions_keep_content<C: SectorCipher>()
 }
 
 /// Wherever the worker stops of a volume that goes on with a conversion guarded by a journal or by
-/// checksum, on one disk that stands for a content under the keys of its sides, each image in which no
-/// copy of a header is torn or hidden stands for that content by the header that it has itself, under
-/// the same keys: with a zone open or not, or at the end, when nothing is converted any more. So the
+/// checksum, on disks that stand for a content under the keys of its sides, with the header on the same
+/// disk or on one of its own, each image of both as one in which no copy of a header is torn or hidden
+/// stands for that content by the header that it has itself, under the same keys: with a zone open or not, or at the end, when nothing is converted any more. So the
 /// next opening begins with it, as the one before did. An image holds of each atom a whole value that
 /// the atom may have: by checksum no digest tells what a torn atom was.
 pub fn stopped_conversions_may_be_resumed<C: SectorCipher>()

@@ -18,8 +18,8 @@ use volume_laws::{
     every_conversion_is_served, keys_seal_lawfully,
 };
 
-/// A volume goes on with a conversion that is guarded by a journal or by checksum, on one disk that
-/// stands for a content under the keys of its sides, while clients use it. Behind any deeds, events of
+/// A volume goes on with a conversion that is guarded by a journal or by checksum, on disks that stand
+/// for a content under the keys of its sides, while clients use it. Behind any deeds, events of
 /// clients and steps of the worker in any order, the operations answered by then are those of the plain
 /// disk that held the content for certain; and each image in which no copy of a header is torn or
 /// hidden stands, by the header that it has itself, under the same keys, for a content in which each
@@ -67,7 +67,7 @@ pub fn stops_beside_clients_stand_under_passphrases<C: SectorCipher>()
 }
 
 /// A volume whose conversion is guarded by a journal or by checksum began under the keys that the keyslots
-/// give to a passphrase, on one disk whose bytes stood for a content under it, and deeds of clients and of
+/// give to a passphrase, on disks whose bytes stood for a content under it, and deeds of clients and of
 /// the worker led its conversion to the end. As long as no write or sync failed, and no operation is under
 /// way, the operations are those of the plain disk that held that content for certain, and the bytes that
 /// the disk tells stand, under the same passphrase, for the newest values that these operations leave: the
