@@ -8,4 +8,5 @@ pub mod Histories
 pub mod Inputs
 pub mod Operations
 pub mod Replies
+pub mod SureSupplies
 pub mod Texts

@@ -23,6 +23,7 @@ mod input;
 mod reading;
 mod replies;
 mod session_laws;
+mod sure_seeds;
 mod text;
 
 pub use client_link::ClientLink;
@@ -32,4 +33,5 @@ pub use demonstration_laws::demonstrations_are_told;
 pub use history_laws::histories_leave_the_content;
 pub use reading::read_back;
 pub use session_laws::sessions_ask_these;
+pub use sure_seeds::SureSeeds;
 pub use text::demo_text;

@@ -29,7 +29,7 @@ use Rattle.reenc_tool.specs.Starting.{ComesToStart, HasStarted}
 abbrev pub HandsOn : {D L : Type 0} → Outcome D L → Type 0
 HandsOn outcome = outcome.cause ≡ Fine → IsSome outcome.disk
 
-unfine : (failing : Failing) (fault : BayFault) (count : ℕ) (cause : Cause) →
+pub unfine : (failing : Failing) (fault : BayFault) (count : ℕ) (cause : Cause) →
     cause ≡ cause_of_fault failing fault count → cause ≡ Fine → ⊥
 unfine failing BayFaults.Failed count cause is fine = cc
 unfine failing BayFaults.Memory count cause is fine = cc
@@ -112,6 +112,7 @@ pub read_so : (demo : Demonstrating) (served : Outcome RamDisk Line)
     → text ≡ demo_text demo.seed demo.blocks demo.workers (sha256 content)
     → HasReadBack demo served (Some text)
 read_so demo served lists links content text ends all same count read is = record {
+  links = ap (λ (l : List Line). length l) (sym same) ∙ count;
   disconnected = ap (list_all has_disconnected) ends ∙ all_mapped has_disconnected lists ∙ all;
   content = content;
   read = subst (λ (l : List Line). AreReadBack demo.seed demo.blocks demo.workers 0 l content) same

@@ -1,6 +1,6 @@
 -- The random bytes and the bay of a demonstration.
 use Rattle.std.proofs.Common.{◌≡◌, ◌∙◌, ◌+◌, ◌*◌, ◌/◌, ◌%◌, ◌^◌, ℕ, List, [], ◌∷◌, ◌++◌, length, map, Some}
-use Rattle.std.proofs.Common.{ap, refl, sym, subst, arith}
+use Rattle.std.proofs.Common.{ap, refl, sym, arith}
 use Rattle.std.specs.Prelude.{slice_index}
 use Rattle.std.proofs.lemmas.List.FromFn.{length-map-range_with_len, map-range_with_len_more}
 use Rattle.std.specs.List.{range_with_len}
@@ -10,7 +10,8 @@ use Rattle.demo_clients.specs.Connections.{demo_connections}
 use Rattle.demo_clients.specs.DemoBays.{Supplies, demo_holdings, demo_name, demo_passphrase}
 use Rattle.demo_clients.specs.DemoBays.{ram_device}
 use Rattle.io_edge.specs.FaultPlan.{fresh_plan}
-use Rattle.io_edge.specs.Memory.{Input, Output, Seedlings, supply_of}
+use Rattle.demo_clients.specs.SureSupplies.{sure_supply}
+use Rattle.io_edge.specs.Memory.{Input, Output, Seedlings}
 use Rattle.memory_disks.specs.declared.ram_disk.RamDisk.{RamDisk}
 use Rattle.reenc_tool.specs.Demonstrating.{IsDemoBay, IsDemoSupply, seed_byte, seed_bytes}
 
@@ -43,11 +44,11 @@ from_none k = omega arith
 
 -- seeds that begin with these bytes
 pub supplied : (seed more : ℕ) (seeds : Seedlings) → seeds.bytes ≡ seed_bytes seed more
-    → seeds.at ≡ 0 → seeds.plan ≡ fresh_plan [] → IsDemoSupply seed more (supply_of seeds)
+    → seeds.at ≡ 0 → seeds.plan ≡ fresh_plan [] → IsDemoSupply seed more (sure_supply seeds)
 supplied seed more seeds bytes at plan = record {
   ahead = λ k. rw (bytes, at, count_bytes seed more)
       (ap (λ (n : ℕ). Some (slice_index (seed_bytes seed more) (n % 256))) (from_none k));
-  faults = ap (λ p. p.faults) plan;
+  faults = refl;
 }
 
 -- ---- the bay

@@ -1,10 +1,13 @@
 -- What `demo` did: the commands that make, convert and serve a volume, one after the other, over a bay
 -- of its own.
-use Rattle.std.specs.Prelude.{ℕ, ◌≡◌, ◌≢◌, ◌⊎◌, ◌+◌, ◌-◌, ◌*◌, ◌/◌, ◌%◌, ◌^◌, nat_lt, Bool, true, false}
-use Rattle.std.specs.Prelude.{if◌then◌else◌, List, [], ◌∷◌, map, replicate, Option, Some, None}
-use Rattle.std.specs.Prelude.{slice_index}
+use Rattle.std.specs.Prelude.{ℕ, ◌≡◌, ◌≢◌, ◌⊎◌, ◌+◌, ◌-◌, ◌*◌, ◌/◌, ◌%◌, ◌^◌, ◌<◌, nat_lt, Bool, true}
+use Rattle.std.specs.Prelude.{false, if◌then◌else◌, List, [], ◌∷◌, map, replicate, Option, Some, None}
+use Rattle.std.specs.Prelude.{IsSomeAnd, length, slice_index}
 use Rattle.std.specs.List.{list_all, range_with_len}
+use Rattle.aes_core.specs.declared.cipher.Aes.{Aes}
+use Rattle.base_terms.specs.Blocks.{lengths}
 use Rattle.bays.specs.Memory.{Line}
+use Rattle.block_server.specs.Serving.{KnowsDeeds}
 use Rattle.command_line.specs.Commands.{Serving}
 use Rattle.command_line.specs.Demonstrations.{Demonstrating}
 use Rattle.command_line.specs.Formats.{Formatting}
@@ -15,8 +18,12 @@ use Rattle.demo_clients.specs.ClientLinks.{client_state}
 use Rattle.demo_clients.specs.Connections.{demo_connections}
 use Rattle.demo_clients.specs.DemoBays.{Supplies, asks_demo_disk, asks_demo_key, asks_demo_links}
 use Rattle.demo_clients.specs.DemoBays.{demo_holdings, demo_name, demo_passphrase, ram_device}
+use Rattle.demo_clients.specs.Demonstrations.{IsTold}
+use Rattle.demo_clients.specs.Histories.{AreOfClients, LeavesContent}
 use Rattle.demo_clients.specs.Replies.{AreReadBack}
 use Rattle.demo_clients.specs.Texts.{demo_text}
+use Rattle.header_report.specs.Examinations.{sizes_alone}
+use Rattle.hotzone.specs.ZoneEvents.Readings.{reading_of}
 use Rattle.io_edge.specs.Supply.{Supply}
 use Rattle.luks_meta.specs.declared.names.Cipher.TheVariants.{AesXtsPlain64}
 use Rattle.luks_meta.specs.declared.reencrypt.Direction.TheVariants.{Forward}
@@ -24,13 +31,31 @@ use Rattle.memory_disks.specs.declared.ram_disk.RamDisk.{RamDisk}
 use Rattle.nbd_session.specs.declared.ending.SessionEnd.{SessionEnd}
 use Rattle.nbd_stream.specs.declared.ending.Ending.{Ending}
 use Rattle.nbd_stream.specs.declared.ending.Ending.TheVariants.{Disconnected}
+use Rattle.plain_disk.specs.Plain.{Block, Legal, settled_blocks}
+use Rattle.recovery_laws.specs.Resumed.Starts.{volume_seals}
+use Rattle.recovery_laws.specs.Served.Ends.{StandsForNewest}
+use Rattle.reenc_recovery.specs.Images.{StandsFor}
+use Rattle.resume_disk.specs.Resuming.{IsOpenedMidway}
+use Rattle.sector_cipher.specs.declared.disk.DiskCipher.{DiskCipher}
 use Rattle.sha2.specs.Sha256.{sha256}
+use Rattle.shared_volume.specs.Ciphers.{Context}
+use Rattle.shared_volume.specs.Lanes.{Knowing}
+use Rattle.volume_laws.specs.BesideLanes.Executing.{ExecutesBeside}
+use Rattle.volume_machine.specs.Answers.{Tagged, untagged}
+use Rattle.volume_machine.specs.Deeds.{Deed}
+use Rattle.volume_machine.specs.States.{State}
 use Rattle.reenc_tool.specs.Asking.{BayView, bay_view}
-use Rattle.reenc_tool.specs.declared.ended.Cause.TheVariants.{Fine, Memory}
+use Rattle.reenc_tool.specs.declared.ended.Cause.{Cause}
+use Rattle.reenc_tool.specs.declared.ended.Cause.TheVariants.{Clash, Fine, Memory, NoFit}
+use Rattle.reenc_tool.specs.declared.ended.Fit.{Fit}
+use Rattle.reenc_tool.specs.declared.ended.Fit.TheVariants.{Blocks, Passphrase, Tail}
 use Rattle.reenc_tool.specs.Making.{HasMade}
 use Rattle.reenc_tool.specs.Outcomes.{EndsSilently, Outcome}
+use Rattle.reenc_tool.specs.Runs.{VolumeKeys}
 use Rattle.reenc_tool.specs.Servicing.{Serviced}
+use Rattle.reenc_tool.specs.Sessions.{most_events}
 use Rattle.reenc_tool.specs.Starting.{HasStarted}
+use Rattle.reenc_tool.specs.TakenUp.{IsLedToEnd}
 
 -- ---- the words of its commands
 -- how the old data are encrypted and the new ones: 1000 rounds of PBKDF2 open the key
@@ -109,6 +134,22 @@ pub record IsDemoBay (demo : Demonstrating) (bay : Supplies) : Type 0 where
   pub faults : (demo_holdings bay).faults ≡ 0
 
 -- ---- how it ends
+-- Nothing of its outside fails, and its words, its passphrase and its volume are as its commands want
+-- them: so all was fine, or memory was wanted; or a number is beyond its limit, but of what the words
+-- tell; or two atoms of a block have one digest.
+abbrev pub MayPass : Fit → Type 0
+MayPass Passphrase = ⊥
+MayPass Blocks = ⊥
+MayPass Tail = ⊥
+MayPass _ = Unit {0}
+
+abbrev pub MayEndBy : Cause → Type 0
+MayEndBy Fine = Unit {0}
+MayEndBy Memory = Unit {0}
+MayEndBy (NoFit what number limit) = MayPass what × (limit < number)
+MayEndBy (Clash block digest) = Unit {0}
+MayEndBy _ = ⊥
+
 -- as one of its commands did; nothing of its outside is handed back but the pass of the volume
 abbrev pub demo_ended : {D L : Type 0} → Outcome RamDisk Line → Outcome D L
 demo_ended ended = record {
@@ -159,14 +200,15 @@ all_disconnected lists = list_all has_disconnected lists
 -- order of the blocks, is this content, whose digest is told.
 pub record HasReadBack (demo : Demonstrating) (served : Outcome RamDisk Line)
     (report : Option (List ℕ)) : Type 0 where
+  pub links : length served.links ≡ demo.workers
   pub disconnected : all_disconnected served.ends ≡ true
   pub content : List ℕ
   pub read : AreReadBack demo.seed demo.blocks demo.workers 0 served.links content
   pub report_is : report
       ≡ Some (demo_text demo.seed demo.blocks demo.workers (sha256 content))
 
--- Clients were served. Where all was fine the digest of what they read is told; or memory was wanted, by
--- a session, for a request or for the report.
+-- Clients were served. Where all was fine the digest of what they read is told; else it is told as want of
+-- memory.
 abbrev pub Concludes : {D L : Type 0} → Demonstrating → Outcome RamDisk Line → Outcome D L →
     Option (List ℕ) → Type 0
 Concludes demo served outcome report =
@@ -174,6 +216,46 @@ Concludes demo served outcome report =
     ⊎ ((served.cause ≡ Fine)
     × (((outcome ≡ demo_ended served) × HasReadBack demo served report)
     ⊎ ((outcome ≡ demo_ended (record served { cause = Memory })) × (report ≡ None))))
+
+-- ---- what it shows
+-- By the pass the whole history of a volume is known: deeds from its start, which executed these
+-- operations. It is the one that the passphrase took up on a disk, with a lane for each of so many workers
+-- and one more, in the middle of its conversion; the disk's bytes stood for this content. The deeds leave
+-- nothing to convert; and unless the history is full the bytes that are left stand, under the passphrase,
+-- for the newest values.
+pub record IsHistoryOf (workers : ℕ) (first : List (List ℕ)) (pass : Option (Knowing Context))
+    (operations : List Tagged) : Type 0 where
+  pub disk : RamDisk
+  pub stood : StandsFor (sizes_alone (ram_device disk)) demo_passphrase disk.bytes.items first
+  pub sector : DiskCipher Aes → ℕ
+  pub sealed : DiskCipher Aes → ℕ → List ℕ → List ℕ
+  pub opened : DiskCipher Aes → ℕ → List ℕ → List ℕ
+  pub start : State VolumeKeys
+  pub taken : IsOpenedMidway sector sealed opened (ram_device disk) demo_passphrase (workers + 1) start
+  pub final : State VolumeKeys
+  pub deeds : List (Deed VolumeKeys)
+  pub told : IsSomeAnd pass (λ pass. KnowsDeeds start pass deeds)
+  pub did : ExecutesBeside (reading_of (sizes_alone (ram_device disk)))
+      (volume_seals sealed opened start) start final deeds operations
+  pub idle : IsLedToEnd (sizes_alone (ram_device disk)) taken.calls.led.last start final
+  pub stands : length deeds < most_events → StandsForNewest (sizes_alone (ram_device disk))
+      demo_passphrase start.map.atom first (untagged operations) final.disk
+
+-- The operations of the volume that was served are those of its clients: of each just its own, in order,
+-- and none was answered an error. They are legal on the plain disk that held for certain what the volume's
+-- disk stood for, so many blocks; each read was answered what was written; and this content is what the
+-- blocks hold behind them, one after the other.
+pub record Shows (demo : Demonstrating) (pass : Option (Knowing Context)) (content : List ℕ) : Type 0
+  where
+    pub first : List (List ℕ)
+    pub even : lengths first ≡ replicate demo.blocks 512
+    pub operations : List Tagged
+    pub known : IsHistoryOf demo.workers first pass operations
+    pub clients : AreOfClients demo.workers operations
+    pub left : List Block
+    pub legal : Legal 512 (settled_blocks first) (untagged operations) left
+    pub told : IsTold demo.seed demo.blocks demo.workers operations left content
+    pub leaves : LeavesContent demo.seed demo.blocks demo.workers operations left
 
 -- ---- its commands
 -- The volume was served to the clients while its conversion was led on.
@@ -184,12 +266,14 @@ pub record HasServedClients {D L : Type 0} (demo : Demonstrating) (outcome : Out
   pub is : Serviced demo_view (demo_serving demo.workers) old new served None
   pub concludes : Concludes demo served outcome report
 
--- Its conversion was begun, by these random bytes, and where it was the volume was served.
+-- Its conversion was begun, by these random bytes, of which no call failed, and where it was the volume was
+-- served.
 pub record HasBegun {D L : Type 0} (demo : Demonstrating) (outcome : Outcome D L)
     (report : Option (List ℕ)) (old : Supplies) : Type 0 where
   pub supply : Supply
   pub now : Supply
   pub supply_is : IsDemoSupply demo.seed 1 supply
+  pub calm : now.faults ≡ 0
   pub new : Supplies
   pub started : Outcome RamDisk Line
   pub said : Option (List ℕ)
@@ -197,12 +281,14 @@ pub record HasBegun {D L : Type 0} (demo : Demonstrating) (outcome : Outcome D L
   pub later : EndsEarly started outcome report
       ⊎ GoesOn started new (HasServedClients demo outcome report)
 
--- A volume was made, by these random bytes, and where it was its conversion was begun.
+-- A volume was made, by these random bytes, of which no call failed, and where it was its conversion was
+-- begun.
 pub record HasFormatted {D L : Type 0} (demo : Demonstrating) (outcome : Outcome D L)
     (report : Option (List ℕ)) (old : Supplies) : Type 0 where
   pub supply : Supply
   pub now : Supply
   pub supply_is : IsDemoSupply demo.seed 0 supply
+  pub calm : now.faults ≡ 0
   pub new : Supplies
   pub made : Outcome RamDisk Line
   pub said : Option (List ℕ)
@@ -210,8 +296,16 @@ pub record HasFormatted {D L : Type 0} (demo : Demonstrating) (outcome : Outcome
   pub later : EndsEarly made outcome report ⊎ GoesOn made new (HasBegun demo outcome report)
 
 -- What `demo` did: memory was wanted for its bay; or that was made, and a volume on its disk.
-abbrev pub HasDemonstrated : {D L : Type 0} → Demonstrating → Outcome D L → Option (List ℕ) →
-    Type 0
-HasDemonstrated demo outcome report =
+abbrev pub RanCommands : {D L : Type 0} → Demonstrating → Outcome D L → Option (List ℕ) → Type 0
+RanCommands demo outcome report =
     EndsSilently None None outcome report Memory
     ⊎ ((bay : Supplies) × IsDemoBay demo bay × HasFormatted demo outcome report bay)
+
+-- Where all was fine the digest of what the blocks hold at the end is told. Whatever came, it is for one
+-- of these causes alone.
+pub record HasDemonstrated {D L : Type 0} (demo : Demonstrating) (outcome : Outcome D L)
+    (report : Option (List ℕ)) : Type 0 where
+  pub ran : RanCommands demo outcome report
+  pub shows : outcome.cause ≡ Fine → (content : List ℕ) × Shows demo outcome.demo content
+      × (report ≡ Some (demo_text demo.seed demo.blocks demo.workers (sha256 content)))
+  pub complete : MayEndBy outcome.cause

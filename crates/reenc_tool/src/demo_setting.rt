@@ -5,7 +5,7 @@ ghost use Rattle.command_line.specs.Commands.{IsServing, serving};
 ghost use Rattle.command_line.specs.Demonstrations.{IsDemonstrating, demonstrating};
 ghost use Rattle.command_line.specs.Formats.{IsFormatting, formatting};
 ghost use Rattle.command_line.specs.Starts.{IsStarting, starting};
-ghost use Rattle.io_edge.specs.Memory.{supply_of};
+ghost use Rattle.demo_clients.specs.SureSupplies.{sure_supply};
 ghost use Rattle.reenc_tool.specs.Demonstrating.{
   IsDemoBay,
   IsDemoSupply,
@@ -18,7 +18,7 @@ ghost use Rattle.reenc_tool.specs.Demonstrating.{
 };
 
 use command_line::{Demo, Format, Guard, Init, NewSegment, Serve};
-use demo_clients::{DEMO_NAME, DemoBay, scripts};
+use demo_clients::{DEMO_NAME, DemoBay, SureSeeds, scripts};
 use io_edge::FixedSeeds;
 use luks_meta::{Cipher, Direction};
 use memory_disks::RamDisk;
@@ -120,13 +120,14 @@ fn seed_bytes(alloc: Global, seed: u64, more: u8) -> Result<Vec<u8>, AllocError>
     Ok(bytes)
 }
 
-/// Seeds that give the bytes of a seed again and again, each so much more.
+/// Seeds that give the bytes of a seed again and again, each so much more, and never fail.
 #[tactic(auto, using(crate::proofs::DemoSeeds::supplied))]
-fn seeds_of(alloc: Global, seed: u64, more: u8) -> Result<FixedSeeds, AllocError>
-    ensures { IfOk result (λ seeds. IsDemoSupply seed more (supply_of seeds)) }
+fn seeds_of(alloc: Global, seed: u64, more: u8) -> Result<SureSeeds, AllocError>
+    ensures { IfOk result (λ seeds. IsDemoSupply seed more (sure_supply seeds)) }
 {
     let bytes = seed_bytes(alloc, seed, more)?;
-    FixedSeeds::new(alloc, bytes.as_slice(), &[])
+    let seeds = FixedSeeds::new(alloc, bytes.as_slice(), &[])?;
+    Ok(SureSeeds::new(seeds))
 }
 
 /// The bay of the demonstration, with its disk and its clients.
@@ -144,9 +145,9 @@ fn bay_for(alloc: Global, words: &Demo) -> Result<DemoBay, AllocError>
 pub struct Setting {
     pub bay: DemoBay,
     /// The random bytes of `format`.
-    pub first: FixedSeeds,
+    pub first: SureSeeds,
     /// Those of `init`.
-    pub second: FixedSeeds,
+    pub second: SureSeeds,
 }
 
 /// The bay and the seeds of a demonstration.
@@ -154,9 +155,9 @@ pub fn setting_for(alloc: Global, words: &Demo) -> Result<Setting, AllocError>
     requires { IsDemonstrating (demonstrating words.now) }
     ensures bay { IfOk result (λ setting. IsDemoBay (demonstrating words.now) setting.bay) }
     ensures first { IfOk result (λ setting.
-        IsDemoSupply words.now.seed 0 (supply_of setting.first)) }
+        IsDemoSupply words.now.seed 0 (sure_supply setting.first)) }
     ensures second { IfOk result (λ setting.
-        IsDemoSupply words.now.seed 1 (supply_of setting.second)) }
+        IsDemoSupply words.now.seed 1 (sure_supply setting.second)) }
 {
     let bay = bay_for(alloc, words)?;
     let first = seeds_of(alloc, words.seed, 0)?;

@@ -4,7 +4,7 @@ ghost use Rattle.std.specs.Prelude.{◌≡◌, IfSome, Some, IsSome, option_map}
 ghost use Rattle.std.specs.Prelude.{string_bytes};
 ghost use Rattle.std.specs.List.{list_all};
 ghost use Rattle.command_line.specs.Demonstrations.{IsDemonstrating, demonstrating};
-ghost use Rattle.io_edge.specs.Memory.{supply_of};
+ghost use Rattle.demo_clients.specs.SureSupplies.{sure_supply};
 ghost use Rattle.reenc_tool.specs.Demonstrating.{
   Concludes,
   HasBegun,
@@ -27,9 +27,12 @@ use crate::ended::{Cause, Ended};
 use crate::making::make;
 use crate::starting::start;
 use command_line::Demo;
-use demo_clients::{ClientLink, DemoBay, demo_text, read_back};
+use demo_clients::{
+    ClientLink, DemoBay, SureSeeds, demo_text, demonstrations_are_told,
+    histories_leave_the_content, read_back,
+};
 use gates::Gate;
-use io_edge::FixedSeeds;
+use luks_format::new_volumes_are_opened;
 use memory_disks::RamDisk;
 use nbd_session::{Ending, SessionEnd};
 use sector_disk::Disk;
@@ -37,6 +40,7 @@ use sha2::{Digest, Sha256};
 use std::alloc::Global;
 use std::sync::Wait;
 use std::thread::Threads;
+use volume_opening::standing_volumes_are_opened;
 
 /// The end of the demonstration by that of one of its commands.
 fn demo_ended<'w, D: Disk, L>(
@@ -174,11 +178,11 @@ fn begin<'w, W: Threads + Wait + Sync, D: Disk, L, G: Gate + Sync>(
     alloc: Global,
     words: &Demo,
     bay: &mut DemoBay,
-    seeds: &mut FixedSeeds,
+    seeds: &mut SureSeeds,
     gate: &G,
 ) -> (Ended<'w, D, L>, Option<String>)
     requires words { IsDemonstrating (demonstrating words.now) }
-    requires seeds { IsDemoSupply words.now.seed 1 (supply_of seeds.old) }
+    requires seeds { IsDemoSupply words.now.seed 1 (sure_supply seeds.old) }
     ensures status { result.0.status ≡ status_of result.0.cause }
     ensures begun { HasBegun (demonstrating words.now) (outcome_of result.0)
         (option_map (λ text. string_bytes text) result.1) bay.old }
@@ -200,8 +204,8 @@ fn format<'w, W: Threads + Wait + Sync, D: Disk, L, G: Gate + Sync>(
     gate: &G,
 ) -> (Ended<'w, D, L>, Option<String>)
     requires words { IsDemonstrating (demonstrating words.now) }
-    requires first { IsDemoSupply words.now.seed 0 (supply_of setting.first) }
-    requires second { IsDemoSupply words.now.seed 1 (supply_of setting.second) }
+    requires first { IsDemoSupply words.now.seed 0 (sure_supply setting.first) }
+    requires second { IsDemoSupply words.now.seed 1 (sure_supply setting.second) }
     ensures status { result.0.status ≡ status_of result.0.cause }
     ensures formatted { HasFormatted (demonstrating words.now) (outcome_of result.0)
         (option_map (λ text. string_bytes text) result.1) setting.bay }
@@ -233,6 +237,10 @@ pub fn demonstrate<'w, W: Threads + Wait + Sync, D: Disk, L, G: Gate + Sync>(
     ensures demonstrated { HasDemonstrated (demonstrating words.now) (outcome_of result.0)
         (option_map (λ text. string_bytes text) result.1) }
 {
+    demonstrations_are_told();
+    histories_leave_the_content();
+    new_volumes_are_opened();
+    standing_volumes_are_opened::<RamDisk>();
     match setting_for(alloc, words) {
         Ok(setting) => format(rt, alloc, words, setting, gate),
         Err(_) => (unserved(alloc, Cause::Memory, None, Vec::new(alloc)), None),
