@@ -17,7 +17,7 @@ use Rattle.nbd_stream.specs.Endings.{IsByInput, IsCount}
 use Rattle.nbd_session.specs.declared.forms.Form.{Form}
 use Rattle.nbd_session.specs.Forms.{form_of}
 use Rattle.nbd_session.specs.Grammar.{EndsRequests}
-use Rattle.nbd_session.specs.Reading.{Asked}
+use Rattle.nbd_session.specs.Asking.{Asked}
 use Rattle.nbd_session.specs.Requests.{ending_of, data_length, operation_of, IsMessage}
 use Rattle.nbd_session.specs.Requests.{IsCutRequest, IsLastHead}
 use Rattle.nbd_stream.proofs.StreamLemmas.{Decision, asks, stops}

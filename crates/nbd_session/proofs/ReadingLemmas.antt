@@ -15,7 +15,8 @@ use Rattle.nbd_stream.specs.Endings.{IsByInput}
 use Rattle.nbd_hand.specs.Grammar.{StopsFlags, SpellsOptions, AreOptions, agreed_after}
 use Rattle.nbd_hand.specs.Handshakes.{Stage, greeted, negotiating, served, HasFlags, no_zeroes}
 use Rattle.nbd_session.specs.Grammar.{AreRequests}
-use Rattle.nbd_session.specs.Reading.{Asked, asked_of, Reads, AreOneReading, ReadsOnce}
+use Rattle.nbd_session.specs.Asking.{Asked, asked_of}
+use Rattle.nbd_session.specs.Reading.{Reads, AreOneReading, ReadsOnce}
 use Rattle.nbd_session.specs.Session.{Log, IsInput, handshake_of}
 use Rattle.nbd_session.specs.Turns.{Turn, Spells}
 use Rattle.nbd_stream.proofs.StreamLemmas.{split, Spelled, Tail, tail-once}

@@ -55,7 +55,7 @@ replies_to-one : (turn : Turn) →
 unfolding replies_to
 replies_to-one turn = refl
 
-replies_to-append : (xs ys : List Turn) → replies_to xs ++ replies_to ys ≡ replies_to (xs ++ ys)
+pub replies_to-append : (xs ys : List Turn) → replies_to xs ++ replies_to ys ≡ replies_to (xs ++ ys)
 unfolding replies_to
 replies_to-append [] ys = refl
 replies_to-append (x ∷ xs) ys =
@@ -87,7 +87,7 @@ stops-end structured WriteFault ended bytes stops = absurd stops
 stops-end structured PortSpent ended bytes stops = absurd stops
 stops-end structured _ ended bytes stops = stops
 
-stops-count : (ending : Ending) (ended : Bool) (bytes : List ℕ) (n : ℕ) →
+pub stops-count : (ending : Ending) (ended : Bool) (bytes : List ℕ) (n : ℕ) →
     StopsRequests ending ended bytes → n < 2 ^ 32 → IsCount (2 ^ 32) ending n
 stops-count (TooMany m) ended bytes n stops fewer = absurd stops
 stops-count WriteFault ended bytes n stops fewer = absurd stops

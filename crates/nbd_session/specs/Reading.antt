@@ -1,22 +1,10 @@
 -- An input is read in one way.
-use Rattle.std.specs.Prelude.{ℕ, ◌≡◌, true, List, [], ◌++◌, map, Option}
-use Rattle.plain_disk.specs.declared.operation.Op.{Op}
+use Rattle.std.specs.Prelude.{ℕ, ◌≡◌, true, List, [], ◌++◌}
 use Rattle.nbd_stream.specs.declared.ending.Ending.{Ending}
 use Rattle.nbd_stream.specs.Endings.{IsByInput}
-use Rattle.nbd_session.specs.declared.forms.Form.{Form}
+pub use Rattle.nbd_session.specs.Asking.{Asked}
+unfoldable pub use Rattle.nbd_session.specs.Asking.{asked_of}
 use Rattle.nbd_session.specs.Session.{Log, IsInput}
-use Rattle.nbd_session.specs.Turns.{Turn}
-
--- what a client asks: its cookie, the operation, if it is one, and the form of the reply
-pub record Asked : Type 0 where
-  pub cookie : ℕ
-  pub asked : Option Op
-  pub form : Form
-
--- what was asked of a session
-unfoldable pub asked_of : List Turn → List Asked
-asked_of turns = map
-    (λ turn. record { cookie = turn.cookie; asked = turn.asked; form = turn.form }) turns
 
 -- a session with this log and this ending takes its bytes from the front of an input
 pub record Reads (log : Log) (ending : Ending) (input : List ℕ) : Type 0 where

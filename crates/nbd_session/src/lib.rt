@@ -13,18 +13,33 @@
 //! choice in what was asked and how the session ended; by `reads_are_spelt` the chunks of each READ
 //! spell what it came to. A session keeps one buffer, of at most 32 MiB, for the bodies and
 //! contents of its operations.
+//!
+//! `serve_lanes` serves a client with several requests in flight, over as many ports, each of which
+//! has a lane: a thread that takes a request, submits it and puts its reply. The source and the sink
+//! lie in a cell of `volume_cell` each, so one history tells which lane took which request, and
+//! another which reply went out when. By its clause `session` each request is answered by the lane
+//! that took it, and the replies stand in the order in which they were put. By
+//! `sessions_are_flights` the same clause holds of `serve_session`, with one lane.
 #![tactic(auto)]
 
 mod ending;
+mod flights;
+mod flying;
 mod forms;
+mod lane;
+mod lanes;
 mod port;
+mod reader;
 mod reading;
 mod replies;
 mod requests;
 mod session;
 mod spelling;
+mod writer;
 
 pub use ending::SessionEnd;
+pub use flights::sessions_are_flights;
+pub use lanes::{Flown, serve_lanes};
 pub use nbd_hand::Export;
 pub use nbd_stream::Ending;
 pub use port::{Port, Submitted};

@@ -16,6 +16,9 @@ use std::alloc::Global;
 /// How many bytes the head of a request has.
 const HEAD: usize = 28;
 
+/// The most requests that one session may have.
+pub(crate) const MAX_REQUESTS: u64 = 1 << 32;
+
 /// The most bytes of data that a write may have.
 const MAX_WRITE: u32 = MAX_READ;
 

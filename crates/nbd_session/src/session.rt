@@ -10,7 +10,7 @@ ghost use Rattle.nbd_stream.specs.declared.ending.Ending.{Ending};
 
 use crate::forms::Form;
 use crate::replies::put_reply;
-use crate::requests::{Next, next_request};
+use crate::requests::{MAX_REQUESTS, Next, next_request};
 use crate::{Ending, Export, Port, SessionEnd, Submitted};
 use base_terms::{Buffer, Bytes, NO_MEMORY};
 use io_edge::{Sink, Source};
@@ -19,9 +19,6 @@ use nbd_stream::Tally;
 use plain_disk::Reply;
 use std::alloc::Global;
 use std::mem;
-
-/// The most requests that one session may have.
-const MAX_REQUESTS: u64 = 1 << 32;
 
 /// Serves one client to its end. What was put is the greeting, the answers to the options and a
 /// reply for each request, in order: a simple one, or chunks for a read where structured replies
@@ -70,7 +67,8 @@ pub fn serve_session<S: Source, K: Sink, P: Port>(
     end_of(export, ending, tally)
 }
 
-fn end_of(export: &Export, ending: Ending, tally: Tally) -> SessionEnd
+/// A session's end, by its counts.
+pub(crate) fn end_of(export: &Export, ending: Ending, tally: Tally) -> SessionEnd
     ensures is { result ≡ record {
       number = export.now.number;
       ending = ending;
@@ -166,7 +164,7 @@ fn serve_request<S: Source, K: Sink, P: Port>(
 }
 
 /// Takes the spare buffer, as the text of all its bytes, and leaves one without memory.
-fn taken_from(alloc: Global, spare: &mut Buffer) -> Bytes
+pub(crate) fn taken_from(alloc: Global, spare: &mut Buffer) -> Bytes
     ensures { result ≡ spare.old }
 {
     let buffer = mem::replace(spare, Buffer::empty(alloc));
@@ -175,7 +173,7 @@ fn taken_from(alloc: Global, spare: &mut Buffer) -> Bytes
 }
 
 /// Keeps the longer buffer for the next operation.
-fn keep(spare: &mut Buffer, used: Bytes)
+pub(crate) fn keep(spare: &mut Buffer, used: Bytes)
     ensures as_long { length used ≤ length spare.new }
     ensures kept { length spare.old ≤ length spare.new }
 {
@@ -186,7 +184,7 @@ fn keep(spare: &mut Buffer, used: Bytes)
 }
 
 /// Keeps the buffer of a read's content, once it was put.
-fn keep_content(spare: &mut Buffer, reply: Reply) {
+pub(crate) fn keep_content(spare: &mut Buffer, reply: Reply) {
     match reply {
         Reply::Content(bytes) => keep(spare, bytes),
         Reply::Done | Reply::Errno(_) | Reply::ErrnoAt(..) => {}
