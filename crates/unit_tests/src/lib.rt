@@ -9,6 +9,7 @@
 //! - `checksums`: resil_checksum, digests beside another implementation's.
 //! - `ciphers`: aes_core, the vectors and the S-box of the cipher's standard.
 //! - `courses`: host_edge, what people are told of a conversion on its way, and when.
+//! - `demonstrations`: demo_clients, its sessions on a plain disk, which holds then what `demo` tells.
 //! - `edges`: file_disk and host_edge, over a file and a network that refuse.
 //! - `joining`: sector_disk, two disks as one: calls over the seam, each of either disk's failing in turn.
 //! - `journals`: resil_journal, old atoms and the room for them.
@@ -35,6 +36,8 @@ mod checksums;
 mod ciphers;
 #[cfg(test)]
 mod courses;
+#[cfg(test)]
+mod demonstrations;
 #[cfg(test)]
 mod edges;
 #[cfg(test)]
