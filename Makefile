@@ -5,7 +5,7 @@ NAME =
 SAMPLE = 5
 
 help:
-	@echo "make run             the demonstration, unproved, in three to eleven silent minutes"
+	@echo "make run             the demonstration, unproved, in three to twenty silent minutes"
 	@echo "make build           prove the program and leave it at crates/reencd/out/reencd (hours)"
 	@echo "make test            every proof, wrong body, test and program, and the scripts (hours)"
 	@echo "make check NAME=X    prove the crate X, and those below it, as the gate does"

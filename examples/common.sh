@@ -1,13 +1,12 @@
 # What every example begins with: a folder of its own, the program on the path as `reencd`, and an end
 # that leaves nothing behind. It is sourced.
 set -eu
-PORT=${PORT:-10809}
 VOLUME=${VOLUME:-272M}
 PART=${PART:-64M}
 
 root=$(cd "$(dirname "${BASH_SOURCE[0]}")/.." && pwd)
 program=$(realpath -m "${REENCD:-$root/crates/reencd/out/reencd}")
-[ -x "$program" ] || { echo "there is no program $program: rt ci builds it"; exit 1; }
+[ -x "$program" ] || { echo "there is no program $program: make build makes it"; exit 1; }
 room=$(mktemp -d)
 
 clean_up() {

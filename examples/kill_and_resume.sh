@@ -6,7 +6,7 @@ needs nbdcopy cmp
 # Serves the volume, behind which $! is the server.
 serve() {
     rm -f said
-    reencd serve volume.img --key-file key --no-worker --listen 127.0.0.1:$PORT 2>said &
+    reencd serve volume.img --key-file key --no-worker --listen unix:nbd 2>said &
     while kill -0 $! && ! grep -qs listening said; do sleep 0.1; done
 }
 
@@ -14,7 +14,7 @@ printf 'a passphrase' >key && truncate -s $VOLUME volume.img
 reencd format volume.img --key-file key
 serve
 head -c 1M /dev/urandom >plain.img
-nbdcopy --flush plain.img nbd://127.0.0.1:$PORT
+nbdcopy --flush plain.img "nbd+unix:///?socket=nbd"
 kill $!; wait $! || true
 
 reencd init volume.img --key-file key
@@ -24,6 +24,6 @@ reencd resume volume.img --key-file key
 reencd status volume.img | grep state
 
 serve
-nbdcopy nbd://127.0.0.1:$PORT back.img
+nbdcopy "nbd+unix:///?socket=nbd" back.img
 kill $!; wait $! || true
 cmp -n 1048576 plain.img back.img && echo same
