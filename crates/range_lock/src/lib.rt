@@ -5,11 +5,15 @@
 //! The layer above may rely on this at every call; an entry that waits is told the lane of an
 //! earlier one that it conflicts with, and asks again after that lane has left.
 //!
+//! The table is kept by first block, each entry with its rank in the order of entry. So what may
+//! conflict with a range is found by a binary search for its end, and nothing behind it is read.
+//!
 //! Memory is taken when a table is made, and never after.
 #![tactic(auto)]
 
 use base_terms::BlockRange;
 
+mod ranked;
 mod table;
 
 pub use table::Table;

@@ -1,74 +1,34 @@
-// The table: a plain list in the order of entry.
+// The table: its entries by first block, and what they stand for, those entries in the order in
+// which they came.
 
 ghost use Rattle.std.specs.Prelude.{◌≡◌, ◌<◌, ◌≤◌, ◌↔◌, ◌++◌, [], ◌∷◌, length, true, false, IsTrue};
-ghost use Rattle.std.specs.Prelude.{IfOk, vec_capacity, vec_len};
-ghost use Rattle.std.specs.List.{position, position_or_len};
-ghost use Rattle.range_lock.specs.Locks.{Conflicts, IsStanding, is_of, has_entry, IsStandingOf};
-ghost use Rattle.range_lock.specs.Locks.{without, Locks};
+ghost use Rattle.std.specs.Prelude.{IfOk};
+ghost use Rattle.range_lock.specs.Locks.{IsStanding, IsStandingOf, has_entry, without};
 
+use crate::ranked::{Ranked, close_gap, has_lane, place_for, place_of, standing_at};
 use crate::{Entry, Kind, Standing};
 use base_terms::BlockRange;
 use std::alloc::{AllocError, Global};
 use std::marker::Model;
 
-// Whether two entries conflict.
-fn conflicts(one: &Entry, other: &Entry) -> bool
-    ensures { IsTrue result ↔ Conflicts one.now other.now }
-{
-    one.range.overlaps(other.range) && (one.kind == Kind::Alone || other.kind == Kind::Alone)
-}
-
-// Where an entry stands after these.
-fn standing_after(earlier: &[Entry], entry: &Entry) -> Standing
-    ensures { IsStanding earlier.now entry.now result }
-{
-    match earlier.iter().find(|other| conflicts(other, entry)) {
-        Some(other) => Standing::Waiting(other.lane),
-        None => Standing::Held,
-    }
-}
-
-// The place of the lane's entry, if it has one.
-fn find_place(entries: &[Entry], lane: u32) -> Option<usize>
-    ensures { result ≡ position (is_of lane) entries.now }
-{
-    entries.iter().position(|entry| entry.lane == lane)
-}
-
-// The place of the lane's entry.
-fn place_of(entries: &[Entry], lane: u32) -> usize
-    requires { has_entry lane entries.now ≡ true }
-    ensures first { result ≡ position_or_len (is_of lane) entries.now }
-    ensures within { result < length entries.now }
-{
-    match find_place(entries, lane) {
-        Some(place) => place,
-        None => unreachable!(),
-    }
-}
-
-// Where the lane's entry stands.
-fn standing_of(entries: &[Entry], lane: u32) -> Standing
-    requires { has_entry lane entries.now ≡ true }
-    ensures { IsStandingOf lane entries.now result }
-{
-    let place = place_of(entries, lane);
-    standing_after(&entries[..place], &entries[place])
-}
-
 /// A table of locks, with room for a number of entries.
 #[derive(Drop)]
 pub struct Table {
     room: usize,
-    entries: Vec<Entry>,
+    sorted: Vec<Ranked>,
 }
 
 impl Model for Table {
+    ghost use Rattle.std.specs.Prelude.{◌≤◌, vec_capacity, vec_len};
+    ghost use Rattle.range_lock.specs.Locks.{Locks};
+    ghost use Rattle.range_lock.specs.Ranks.{by_rank, AreKept};
+
     ghost Value = { Locks };
 
-    ghost view = { λ t. record { room = t.room; entries = t.entries.items } };
+    ghost view = { λ t. record { room = t.room; entries = by_rank t.sorted.items } };
 
-    ghost invariant = { λ t. (vec_len t.entries ≤ t.room) × (t.room ≤ vec_capacity t.entries) };
+    ghost invariant = { λ t. (vec_len t.sorted ≤ t.room) × (t.room ≤ vec_capacity t.sorted)
+        × AreKept t.sorted.items };
 }
 
 impl Table {
@@ -78,7 +38,7 @@ impl Table {
     {
         Ok(Table {
             room,
-            entries: Vec::with_capacity(alloc, room)?,
+            sorted: Vec::with_capacity(alloc, room)?,
         })
     }
 
@@ -86,14 +46,14 @@ impl Table {
     pub fn is_full(&self) -> bool
         ensures { IsTrue result ↔ (self.now.room ≤ length self.now.entries) }
     {
-        self.entries.len() >= self.room
+        self.sorted.len() >= self.room
     }
 
     /// Whether the lane has an entry.
     pub fn has_entry(&self, lane: u32) -> bool
         ensures { result ≡ has_entry lane self.now.entries }
     {
-        self.entries.iter().any(|entry| entry.lane == lane)
+        has_lane(self.sorted.as_slice(), lane)
     }
 
     /// Adds an entry for a lane that has none, behind all others, and tells where it stands.
@@ -107,8 +67,11 @@ impl Table {
             (record { lane = lane; range = range; kind = kind }) result }
     {
         let entry = Entry { lane, range, kind };
-        let standing = standing_after(&self.entries, &entry);
-        match self.entries.push(entry) {
+        let rank = self.sorted.len();
+        let sorted = self.sorted.as_slice();
+        let standing = standing_at(sorted, &entry, rank);
+        let place = place_for(sorted, range.start);
+        match self.sorted.insert(place, Ranked { entry, rank }) {
             Ok(()) => {}
             Err(_) => unreachable!(),
         }
@@ -120,7 +83,10 @@ impl Table {
         requires { has_entry lane self.now.entries ≡ true }
         ensures { IsStandingOf lane self.now.entries result }
     {
-        standing_of(&self.entries, lane)
+        let sorted = self.sorted.as_slice();
+        let place = place_of(sorted, lane);
+        let own = &sorted[place];
+        standing_at(sorted, &own.entry, own.rank)
     }
 
     /// Takes the lane's entry out; the others keep their order.
@@ -129,7 +95,8 @@ impl Table {
         ensures room { self.new.room ≡ self.old.room }
         ensures left { self.new.entries ≡ without lane self.old.entries }
     {
-        let place = place_of(&self.entries, lane);
-        self.entries.remove(place);
+        let place = place_of(self.sorted.as_slice(), lane);
+        let left = self.sorted.remove(place);
+        close_gap(&mut self.sorted, left.rank);
     }
 }
