@@ -18,7 +18,8 @@ use Rattle.nbd_session.specs.Merges.{AreFrom, From, items_from}
 use Rattle.nbd_session.specs.Takes.{ReadingEnds}
 use Rattle.nbd_session.specs.Turns.{Turn}
 use Rattle.nbd_session.proofs.LaneAnswers.{stop-turn}
-use Rattle.nbd_session.proofs.LaneHistories.{AreStops, GivesCalls, differ-eqb, same-eqb}
+use Rattle.nbd_session.proofs.LaneHistories.{AreStops, GivesCalls, differ-eqb, nothing, one-name}
+use Rattle.nbd_session.proofs.LaneHistories.{same-eqb}
 use Rattle.volume_cell.proofs.Names.{names-differ, names-same}
 use Rattle.volume_cell.specs.declared.history.Call.{Call}
 use Rattle.volume_cell.specs.declared.history.Entry.{Entry}
@@ -92,14 +93,8 @@ unfoldable AreNamed : {E O : Type 0} → ℕ → List (Entry E O) → Type 0
 AreNamed n [] = Unit {0}
 AreNamed n (one ∷ history) = ((k : ℕ) × (k < n) × (one.name ≡ k ∷ [])) × AreNamed n history
 
-nothing : {X : Type 0} (x : X) (xs ys : List X) → (x ∷ xs) ++ ys ≡ [] → ⊥
-nothing x xs ys is = cc
-
 other-name : (j k : ℕ) (name : List ℕ) → name ≡ j ∷ [] → k ≢ j → (k ∷ []) ≢ name
-other-name j k name is differ same = differ (inside (same ∙ is))
-  where
-    inside : (k ∷ []) ≡ (j ∷ []) → k ≡ j
-    inside e = cc
+other-name j k name is differ same = differ (one-name k j (same ∙ is))
 
 module _ {E O : Type 0} where
   -- a name that has calls is that of a lane

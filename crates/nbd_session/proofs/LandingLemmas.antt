@@ -1,6 +1,6 @@
 -- A session that came to its requests, once its lanes were dismissed and its cells closed.
-use Rattle.std.proofs.Common.{◌≡◌, ◌⊎◌, inl, inr, ℕ, zero, suc, ◌+◌, ◌^◌, ◌-◌, ◌<◌, ◌≤◌, Bool, true, false}
-use Rattle.std.proofs.Common.{List, [], ◌∷◌, ◌++◌, map, length, slice_index_or, Option, Some, ◌||◌}
+use Rattle.std.proofs.Common.{◌≡◌, ◌≢◌, ◌⊎◌, inl, inr, ℕ, zero, suc, ◌+◌, ◌^◌, ◌-◌, ◌<◌, ◌≤◌, Bool, true, false}
+use Rattle.std.proofs.Common.{List, [], ◌∷◌, ◌++◌, map, length, slice_index_or, Option, Some, None, ◌||◌}
 use Rattle.std.proofs.Common.{Ok, Vec, Global, refl, sym, ◌∙◌, ap, subst, arith}
 use Rattle.io_edge.specs.Intake.{Intake}
 use Rattle.io_edge.specs.Outlet.{Outlet}
@@ -23,22 +23,26 @@ use Rattle.nbd_session.specs.declared.writer.Put.{Put}
 use Rattle.nbd_session.specs.declared.writer.Writing.{Writing}
 use Rattle.nbd_session.specs.declared.writer.Written.{Written}
 use Rattle.nbd_session.specs.Flying.{AreMade, AreUsable, HasFlown, HasLanded, IsOneSpent}
+use Rattle.nbd_session.specs.Flying.{LeavesSpent}
 use Rattle.nbd_session.specs.Flying.{ReaderCell, ReaderPass, WriterCell, WriterPass, any_spent}
 use Rattle.nbd_session.specs.Flying.{is_spent_halt}
 use Rattle.nbd_session.specs.Lanes.{HasServed, reader_spent}
 use Rattle.nbd_session.specs.Merges.{AreFrom, From, items_from}
 use Rattle.nbd_session.specs.Puts.{HasWritten, Sends}
-use Rattle.nbd_session.specs.Takes.{HasRead, ReadingEnds}
+use Rattle.nbd_session.specs.Asking.{Asked}
+use Rattle.nbd_session.specs.Takes.{Gives, HasRead, ReadingEnds}
 use Rattle.nbd_session.specs.Turns.{exchanges_of}
 use Rattle.nbd_session.proofs.CountLemmas.{IsLaned, puts-bound, puts-few, reading-few, takes-bound}
 use Rattle.nbd_session.proofs.CountLemmas.{takes-few}
 use Rattle.nbd_session.proofs.FlightLemmas.{EndsSo, ServedAt, by_memory, by_reading, by_room, by_sink}
-use Rattle.nbd_session.proofs.FlightLemmas.{flight-served, lane-broke, lane-ended, served-flight}
+use Rattle.nbd_session.proofs.AloneLemmas.{alone-unended, broke-lane}
+use Rattle.nbd_session.proofs.FlightLemmas.{answers, broken, flight-served, lane-broke, lane-ended, lane-left, served-flight}
 use Rattle.nbd_session.proofs.FlightLemmas.{turns-did}
-use Rattle.nbd_session.proofs.LaneHistories.{GivesCalls, gives-from, gives-lane}
+use Rattle.nbd_session.proofs.LaneHistories.{GivesCalls, below-or-not, gives-from, gives-lane}
+use Rattle.nbd_session.proofs.LaneHistories.{one-name}
 use Rattle.nbd_session.proofs.LaneLemmas.{served-none}
 use Rattle.nbd_session.proofs.PassLemmas.{AreNumbered, calls-at, calls-or, map-at, map-length}
-use Rattle.volume_cell.proofs.Names.{true-or-false}
+use Rattle.volume_cell.proofs.Names.{not-both, true-or-false}
 use Rattle.volume_cell.specs.declared.history.Call.{Call}
 use Rattle.volume_cell.specs.declared.knowledge.Knowledge.{Knowledge}
 use Rattle.volume_cell.specs.Histories.{account, calls_of}
@@ -46,12 +50,6 @@ use Rattle.volume_cell.specs.Passes.{IsAccounted, known}
 
 pub some-same : {A : Type 0} (a b : A) → Some a ≡ Some b → a ≡ b
 some-same a b is = cc
-
-below-or-not : (k count : ℕ) → (k < count) ⊎ (count ≤ k)
-below-or-not k count = grind arith
-
-not-both : (b : Bool) → b ≡ true → b ≡ false → ⊥
-not-both b is not = let same : true ≡ false = sym is ∙ not in absurd (cc)
 
 some-of : {A : Type 0} (xs : List A) (k : ℕ) → k < length xs → A
 some-of [] k below = absurd (omega (arith, below))
@@ -63,9 +61,6 @@ pub same-place : {X : Type 0} (xs : List X) (j : ℕ) (x y : X) → j < length x
 same-place [] j x y short = absurd (omega (arith, short))
 same-place (z ∷ xs) zero x y short = refl
 same-place (z ∷ xs) (suc j) x y short = same-place xs j x y (omega (arith, short))
-
-one-number : (a b : ℕ) → (a ∷ []) ≡ (b ∷ []) → a ≡ b
-one-number a b is = cc
 
 -- a number that no lane has did nothing
 pub nothing-served : HasServed Halts.CellSpent [] [] [] []
@@ -140,11 +135,11 @@ module _ {A B P : Type 0} where
 
 -- a halt that isn't for want of room
 data IsCalm : Halt → Type 0 where
-  read_so : (how : Ending) → IsCalm (Halts.ReadOut how)
+  read_so : (how : Ending) → IsCalm (Halts.RequestsEnded how)
   sink_so : IsCalm Halts.SinkFailed
 
 calm-halt : (halt : Halt) → is_spent_halt (Some halt) ≡ false → IsCalm halt
-calm-halt (Halts.ReadOut how) is = read_so how
+calm-halt (Halts.RequestsEnded how) is = read_so how
 calm-halt Halts.SinkFailed is = sink_so
 calm-halt Halts.PortSpent is = absurd (cc)
 calm-halt Halts.CellSpent is = absurd (cc)
@@ -154,10 +149,16 @@ spent-halt : (halt : Halt) → is_spent_halt (Some halt) ≡ true
 spent-halt Halts.PortSpent is = inl refl
 spent-halt Halts.CellSpent is = inr refl
 spent-halt Halts.SinkFailed is = absurd (cc)
-spent-halt (Halts.ReadOut how) is = absurd (cc)
+spent-halt (Halts.RequestsEnded how) is = absurd (cc)
 
 memory-differs : Memory ≡ PortSpent → ⊥
 memory-differs is = cc
+
+cell-differs : Halts.CellSpent ≡ Halts.PortSpent → ⊥
+cell-differs is = cc
+
+port-differs : (how : Ending) → Halts.PortSpent ≡ Halts.RequestsEnded how → ⊥
+port-differs how is = cc
 
 fault-differs : WriteFault ≡ PortSpent → ⊥
 fault-differs is = cc
@@ -252,7 +253,7 @@ module _ {S K P A B : Type 0} (intake : S → Intake) (outlet : K → Outlet)
               → calls_of (k ∷ []) v.history ≡ []
           by (inl none) = none
           by (inr (j, above, below, is)) =
-              let same = one-number k j is in let less = ports-below j below in
+              let same = one-name k j is in let less = ports-below j below in
               absurd (omega (arith, same, less, beyond))
 
       pub no-puts : (k : ℕ) → length ports ≤ k → calls_of (k ∷ []) w.history ≡ []
@@ -264,7 +265,7 @@ module _ {S K P A B : Type 0} (intake : S → Intake) (outlet : K → Outlet)
               → calls_of (k ∷ []) w.history ≡ []
           by (inl none) = none
           by (inr (j, above, below, is)) =
-              let same = one-number k j is in let less = ports-below j below in
+              let same = one-name k j is in let less = ports-below j below in
               absurd (omega (arith, same, less, beyond))
 
       -- what the lane of a number did
@@ -274,6 +275,11 @@ module _ {S K P A B : Type 0} (intake : S → Intake) (outlet : K → Outlet)
             → did (slice_index_or ports k port) (slice_index_or left.items k port) (exchanges_of at.turns)
         halted : (lane : AnyLane) → k < length ports
             → (slice_index_or served k lane).halt ≡ Some at.halt
+        spent : (port : P) → k < length ports → at.halt ≡ Halts.PortSpent
+            → is_spent (slice_index_or left.items k port)
+        full : k < length ports → at.halt ≡ Halts.CellSpent → (lane : AnyLane)
+            × ((length (known (slice_index_or served k lane).source).history ≡ reader.limit)
+            ⊎ (length (known (slice_index_or served k lane).sink).history ≡ writer.limit))
 
       lane-below : (k : ℕ) → k < length ports → AtLane k
       lane-below k below =
@@ -304,6 +310,11 @@ module _ {S K P A B : Type 0} (intake : S → Intake) (outlet : K → Outlet)
                 ∙ map-at (λ (lane : AnyLane). lane.port) served k some port (served-below k below)))
                 flown.did_so);
             halted = λ lane _. by-lane lane;
+            spent = λ port _ is. subst is_spent
+                (sym (ap (λ (them : List P). slice_index_or them k port) closed.left_are
+                ∙ map-at (λ (lane : AnyLane). lane.port) served k some port (served-below k below)))
+                (flown.spent is);
+            full = λ _ is. (some, flown.full is);
           }
         where
           by-lane : (lane : AnyLane) → (slice_index_or served k lane).halt
@@ -326,6 +337,8 @@ module _ {S K P A B : Type 0} (intake : S → Intake) (outlet : K → Outlet)
         };
         did_so = λ port below. absurd (omega (arith, below, beyond));
         halted = λ lane below. absurd (omega (arith, below, beyond));
+        spent = λ port below. absurd (omega (arith, below, beyond));
+        full = λ below. absurd (omega (arith, below, beyond));
       }
 
       at-lane : (k : ℕ) → AtLane k
@@ -412,45 +425,75 @@ module _ {S K P A B : Type 0} (intake : S → Intake) (outlet : K → Outlet)
             let limit = closed.puts_limit in
             let short = puts-short in omega (arith, full, known_so, limit, short, few)
 
+        no-full : (k : ℕ) → k < length ports → (at-number k).halt ≢ Halts.CellSpent
+        no-full k below is =
+            let one = (at-lane k).full below is in cell-spent k one.0 (served-below k below) one.1
+
         -- so where one was out of room its port is spent
-        pub spent-port : any_spent served ≡ true → IsOneSpent is_spent left.items
-        spent-port is = (
-          one.place,
-          left-below,
-          λ port. subst is_spent
-              (sym (ap (λ (them : List P). slice_index_or them one.place port) closed.left_are
-              ∙ map-at (λ (lane : AnyLane). lane.port) served one.place lane port one.below))
-              (by (spent-halt flown.halt (subst (λ (h : Option Halt). is_spent_halt h ≡ true)
-              flown.halted (one.is lane)))),
-        )
+        spent-place : any_spent served ≡ true
+            → (k : ℕ) × (k < length ports) × ((at-number k).halt ≡ Halts.PortSpent)
+        spent-place is =
+            let one = one-spent served is in
+            let lane = some-of served one.place one.below in
+            let below = ports-below one.place one.below in
+            by one.place below (spent-halt (at-number one.place).halt
+            (subst (λ (h : Option Halt). is_spent_halt h ≡ true)
+            ((at-lane one.place).halted lane below) (one.is lane)))
           where
-            one : OneSpent served
-            one = one-spent served is
+            by : (k : ℕ) → k < length ports
+                → ((at-number k).halt ≡ Halts.PortSpent) ⊎ ((at-number k).halt ≡ Halts.CellSpent)
+                → (k : ℕ) × (k < length ports) × ((at-number k).halt ≡ Halts.PortSpent)
+            by k below (inl port) = (k, below, port)
+            by k below (inr cell) = absurd (no-full k below cell)
 
-            lane : AnyLane
-            lane = some-of served one.place one.below
+        pub spent-port : any_spent served ≡ true → IsOneSpent is_spent left.items
+        spent-port is =
+            let one = spent-place is in
+            let same = ap (λ (them : List P). length them) closed.left_are
+            ∙ map-length (λ (it : AnyLane). it.port) served in
+            let below = served-below one.0 one.1 in (
+              one.0,
+              omega (arith, same, below),
+              λ port. (at-lane one.0).spent port one.1 one.2,
+            )
 
-            flown : HasFlown usable reader writer is_spent did one.place
-                (slice_index_or made one.place lane) (slice_index_or served one.place lane)
-            flown = closed.flown one.place lane
-                (made-below one.place (ports-below one.place one.below))
+      -- a lane left a request only where its port is spent
+      leaves-spent : LeavesSpent is_spent left.items
+          (λ k. (answers intake outlet (length ports) begun read start now v.history w.history
+          closed.has_read closed.has_written at-number no-takes no-puts k).left)
+      leaves-spent k port below some =
+          let same = ap (λ (them : List P). length them) closed.left_are
+          ∙ map-length (λ (it : AnyLane). it.port) served in
+          (at-lane k).spent port (ports-below k (omega (arith, same, below)))
+          (lane-left intake outlet (length ports) begun read start now v.history w.history
+          closed.has_read closed.has_written at-number no-takes no-puts k some)
 
-            left-below : one.place < length left.items
-            left-below =
-                let same = ap (λ (them : List P). length them) closed.left_are
-                ∙ map-length (λ (it : AnyLane). it.port) served in
-                let below = one.below in omega (arith, same, below)
+      -- ---- a lane that is alone
+      -- where a lane halted, but not since the requests ended, it came to no end of its reading
+      alone : (k : ℕ) → k < length ports
+          → ((how : Ending) → (at-number k).halt ≢ Halts.RequestsEnded how) → length ports ≡ 1
+          → read.ending ≡ None
+      alone k below other one = alone-unended (length ports) v.history w.history at-number takes-laned
+          closed.has_read.all read.ending closed.has_read.gives k below other one
 
-            by : (flown.halt ≡ Halts.PortSpent) ⊎ (flown.halt ≡ Halts.CellSpent)
-                → is_spent (slice_index_or served one.place lane).port
-            by (inl port) = flown.spent port
-            by (inr cell) = absurd (cell-spent one.place lane one.below (flown.full cell))
+      -- as at the failure of its sink
+      alone-broke : now.failed ≡ true → length ports ≡ 1 → read.ending ≡ None
+      alone-broke failed one =
+          let lane = broke-lane (length ports) v.history w.history at-number no-puts
+          closed.has_written.all
+          (broken w.history closed.has_written.all now.failed failed closed.has_written.sends) in
+          alone lane.0 lane.1 lane.2 one
+
+      -- or where its port takes no more
+      alone-spent : (k : ℕ) → k < length ports → (at-number k).halt ≡ Halts.PortSpent
+          → length ports ≡ 1 → read.ending ≡ None
+      alone-spent k below is one = alone k below (λ how ended. port-differs how (sym is ∙ ended)) one
 
       -- ---- why it ended
       module _ (some : 0 < length ports) where
         -- where no lane was out of room and the sink goes on, each lane read out the requests
         read-out : now.failed ≡ false → any_spent served ≡ false → (k : ℕ) → k < length ports
-            → (how : Ending) × ((at-number k).halt ≡ Halts.ReadOut how)
+            → (how : Ending) × ((at-number k).halt ≡ Halts.RequestsEnded how)
         read-out still none k below =
             let one = some-of served k (served-below k below) in
             by (at-number k).halt refl (calm-halt (at-number k).halt
@@ -458,9 +501,9 @@ module _ {S K P A B : Type 0} (intake : S → Intake) (outlet : K → Outlet)
             (none-spent served none k one (served-below k below))))
           where
             by : (halt : Halt) → (at-number k).halt ≡ halt → IsCalm halt
-                → (how : Ending) × ((at-number k).halt ≡ Halts.ReadOut how)
+                → (how : Ending) × ((at-number k).halt ≡ Halts.RequestsEnded how)
             by _ is (read_so how) = (how, is)
-            by _ is sink_so = absurd (not-both now.failed (lane-broke intake outlet (length ports)
+            by _ is sink_so = absurd (not-both (lane-broke intake outlet (length ports)
                 begun read start now v.history w.history closed.has_read closed.has_written at-number
                 no-takes no-puts k is) still)
 
@@ -474,22 +517,29 @@ module _ {S K P A B : Type 0} (intake : S → Intake) (outlet : K → Outlet)
                   closed.has_read closed.has_written at-number no-takes no-puts 0 first.0 first.1,
             )
 
-        ends-so : (ending : Ending) → EndsBy now.failed (any_spent served) read.ending ending
-            → EndsSo (length ports) (λ k. (at-number k).halt) read.ending now.failed ending
-        ends-so ending by = decide (true-or-false now.failed) (true-or-false (any_spent served))
+        ends-so : length ports ≤ 4294967295 → (ending : Ending) → EndsBy now.failed (any_spent served) read.ending ending
+            → EndsSo (length ports) (λ k. (at-number k).halt) read.ending closed.has_read.all
+            now.failed ending
+        ends-so few ending by = decide (true-or-false now.failed) (true-or-false (any_spent served))
           where
             decide : (now.failed ≡ true) ⊎ (now.failed ≡ false)
                 → (any_spent served ≡ true) ⊎ (any_spent served ≡ false)
-                → EndsSo (length ports) (λ k. (at-number k).halt) read.ending now.failed ending
+                → EndsSo (length ports) (λ k. (at-number k).halt) read.ending closed.has_read.all
+                now.failed ending
             decide (inl failed) room = subst
-                (EndsSo (length ports) (λ k. (at-number k).halt) read.ending now.failed)
-                (sym (by.sink failed)) (by_sink failed)
+                (EndsSo (length ports) (λ k. (at-number k).halt) read.ending closed.has_read.all
+                now.failed)
+                (sym (by.sink failed)) (by_sink failed (alone-broke failed))
             decide (inr still) (inl spent) = subst
-                (EndsSo (length ports) (λ k. (at-number k).halt) read.ending now.failed)
-                (sym (by.spent_so still spent)) (by_room still)
+                (EndsSo (length ports) (λ k. (at-number k).halt) read.ending closed.has_read.all
+                now.failed)
+                (sym (by.spent_so still spent))
+                (let one = spent-place few spent in by_room still (alone-spent one.0 one.1 one.2)
+                one.0 one.1 one.2 (no-full few))
             decide (inr still) (inr none) =
                 let read_end = have-ended still none in subst
-                (EndsSo (length ports) (λ k. (at-number k).halt) read.ending now.failed)
+                (EndsSo (length ports) (λ k. (at-number k).halt) read.ending closed.has_read.all
+                now.failed)
                 (sym (by.read_so_far read_end.0 still none read_end.1))
                 (by_reading read_end.0 still read_end.1 (read-out still none))
 
@@ -569,10 +619,11 @@ module _ {S K P A B : Type 0} (intake : S → Intake) (outlet : K → Outlet)
                   w.history closed.has_read closed.has_written at-number no-takes no-puts k))
                   ((at-lane k).did_so port below);
             },
+            leaves-spent,
             flight-served intake outlet (length ports) begun read start now v.history w.history
                 closed.has_read closed.has_written at-number no-takes no-puts export a agreed ending
                 hand none_taken none_put taken_fits put_fits structured negotiates
-                (ends-so ending by),
+                (ends-so few ending by),
           );
         }
 
@@ -609,6 +660,16 @@ module _ {S K P : Type 0} (intake : S → Intake) (outlet : K → Outlet)
 
     goes-on : now.failed ≡ false
     goes-on = still-goes now.failed has_written.all has_written.sends
+
+    gives-nothing : (all : List (From Asked)) (end : Option Ending) → Gives 0 [] all end
+        → (end ≡ None) × (all ≡ [])
+    unfolding Gives
+    gives-nothing [] None gives = (refl, refl)
+    gives-nothing [] (Some ending) gives = absurd gives
+    gives-nothing (given ∷ all) end gives = absurd gives
+
+    nothing-read : (read.ending ≡ None) × (has_read.all ≡ [])
+    nothing-read = gives-nothing has_read.all read.ending has_read.gives
 
     pub none-out : IsOut (outlet now.sink)
     none-out = has_written.out goes-on
@@ -657,8 +718,12 @@ module _ {S K P : Type 0} (intake : S → Intake) (outlet : K → Outlet)
               has_written at-none (λ k beyond. no-takes-yet k) (λ k beyond. no-puts-yet k) k
               ∙ nothing-done k)) (did_none (slice_index_or ports.items k port));
         },
+        λ k port below some. absurd (cell-differs (lane-left intake outlet (length ports.items) begun
+            read start now [] [] has_read has_written at-none (λ k beyond. no-takes-yet k)
+            (λ k beyond. no-puts-yet k) k some)),
         flight-served intake outlet (length ports.items) begun read start now [] [] has_read has_written
             at-none (λ k beyond. no-takes-yet k) (λ k beyond. no-puts-yet k) export a agreed Memory
-            hand none_taken none_put taken_fits put_fits structured negotiates (by_memory goes-on),
+            hand none_taken none_put taken_fits put_fits structured negotiates
+            (by_memory goes-on nothing-read.0 nothing-read.1),
       );
     }

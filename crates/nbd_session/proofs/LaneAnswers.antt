@@ -1,5 +1,5 @@
 -- The requests of one lane with their replies, by what the reader gave and the writer put.
-use Rattle.std.proofs.Common.{◌≡◌, ℕ, ◌+◌, ◌≤◌, Bool, true, List, [], ◌∷◌, ◌++◌, Option, Some}
+use Rattle.std.proofs.Common.{◌≡◌, ◌≢◌, ℕ, ◌+◌, ◌≤◌, Bool, true, List, [], ◌∷◌, ◌++◌, Option, Some}
 use Rattle.std.proofs.Common.{length, ap, ◌∙◌, refl, sym, subst, arith, append-nil, append_assoc}
 use Rattle.plain_disk.specs.declared.operation.Op.{Op}
 use Rattle.plain_disk.specs.Plain.{Exchange}
@@ -14,7 +14,7 @@ use Rattle.nbd_session.specs.declared.writer.Put.{Put}
 use Rattle.nbd_session.specs.declared.writer.Written.{Written}
 use Rattle.nbd_session.specs.declared.writer.Written.TheVariants.{Done, SinkFailed}
 use Rattle.nbd_session.specs.Asking.{Asked, asked_of}
-use Rattle.nbd_session.specs.Flights.{AreAnswered}
+use Rattle.nbd_session.specs.Flights.{AreAnswered, AreOperations}
 use Rattle.nbd_session.specs.Lanes.{AreServed, HasServed, IsLast, IsLeft, IsReplied, IsTurnOf}
 use Rattle.nbd_session.specs.Lanes.{port_spent, read_out, reader_spent, sink_failed}
 use Rattle.nbd_session.specs.Lanes.{writer_spent}
@@ -23,9 +23,10 @@ use Rattle.nbd_session.specs.Replies.{reply_text}
 use Rattle.nbd_session.specs.Requests.{IsRefusal}
 use Rattle.nbd_session.specs.Takes.{IsGivenBy}
 use Rattle.nbd_session.specs.Turns.{Turn, IsAnswered, exchange_of, exchanges_of, replies_to}
-use Rattle.nbd_session.proofs.LaneHistories.{AreStops, AreUnput, GivesCalls, SendsCalls}
+use Rattle.nbd_session.proofs.LaneHistories.{AreStops, AreUnput, FailedIn, GivesCalls, SendsCalls}
+use Rattle.nbd_session.proofs.LaneHistories.{none-failed}
 use Rattle.nbd_session.proofs.RequestLemmas.{exchanges_of-append, refused-answered, refused-exchanges}
-use Rattle.nbd_session.proofs.RequestLemmas.{replies_to-append}
+use Rattle.nbd_session.proofs.RequestLemmas.{replies_to-append, replies_to-none, replies_to-one}
 use Rattle.volume_cell.specs.declared.history.Call.{Call}
 
 -- ---- a turn
@@ -111,7 +112,7 @@ more-asking asked turn all turns is are = record {
 
 -- ---- what a lane served
 -- it served a front of the requests that it was given, and put these replies
-record Fronts (end : Option Ending) (broke : Bool) (last_takes : List (Call Take Taken)) (last_puts : List (Call Put Written))
+record Fronts (end : Option Ending) (broke : Bool) (puts : List (Call Put Written)) (last_takes : List (Call Take Taken)) (last_puts : List (Call Put Written))
     (turns last : List Turn) (asked : List Asked) (texts : List (List ℕ)) : Type 0 where
   them : List Turn
   rest : List Asked
@@ -123,8 +124,9 @@ record Fronts (end : Option Ending) (broke : Bool) (last_takes : List (Call Take
   did : exchanges_of them ++ exchanges_of last ≡ exchanges_of (turns ++ last)
   gives : GivesCalls end last_takes rest
   sends : SendsCalls broke last_puts rear
+  fails : FailedIn (puts ++ last_puts) texts → FailedIn last_puts rear
 
-done-goes : (outcome : Written) (P Q : Type 0) → IfDone outcome (Unit {0}) ⊥ → IfDone outcome P Q
+pub done-goes : (outcome : Written) (P Q : Type 0) → IfDone outcome (Unit {0}) ⊥ → IfDone outcome P Q
     → P
 done-goes (Done reply) P Q done is = is
 done-goes (SinkFailed reply) P Q done is = absurd done
@@ -144,8 +146,8 @@ stop-turn next turn is ending stops = subst (λ n. IsTurnOf n turn) stops is
 fronts : (end : Option Ending) (broke : Bool) (takes last_takes : List (Call Take Taken)) (puts last_puts : List (Call Put Written))
     (turns last : List Turn) (asked : List Asked) (texts : List (List ℕ))
     → AreServed takes puts turns → GivesCalls end (takes ++ last_takes) asked
-    → SendsCalls broke (puts ++ last_puts) texts → Fronts end broke last_takes last_puts turns last asked texts
-unfolding AreServed GivesCalls SendsCalls AreUnput AreStops asked_of AreAnswered replies_to exchanges_of
+    → SendsCalls broke (puts ++ last_puts) texts → Fronts end broke puts last_takes last_puts turns last asked texts
+unfolding AreServed FailedIn GivesCalls SendsCalls AreUnput AreStops asked_of AreAnswered replies_to exchanges_of
 fronts end broke [] last_takes [] last_puts [] last asked texts served gives sends = record {
   them = [];
   rest = asked;
@@ -157,6 +159,7 @@ fronts end broke [] last_takes [] last_puts [] last asked texts served gives sen
   did = refl;
   gives = gives;
   sends = sends;
+  fails = λ failed. failed;
 }
 fronts end broke (take ∷ takes) last_takes (put ∷ puts) last_puts (turn ∷ turns) last [] texts
     (is, done, served) gives sends =
@@ -183,6 +186,7 @@ fronts end broke (take ∷ takes) last_takes (put ∷ puts) last_puts (turn ∷ 
           ∙ ap (λ them. did_by turn ++ them) more.did;
       gives = more.gives;
       sends = more.sends;
+      fails = λ failed. more.fails (done-goes put.outcome _ _ done failed);
     }
 fronts end broke [] last_takes [] last_puts (turn ∷ turns) last asked texts served gives sends = absurd served
 fronts end broke [] last_takes (put ∷ puts) last_puts turns last asked texts served gives sends = absurd served
@@ -192,14 +196,24 @@ fronts end broke (take ∷ takes) last_takes (put ∷ puts) last_puts [] last as
     absurd served
 
 -- ---- and at last
--- what holds by a lane's halt: at the end of the requests it left nothing
+-- what holds by a lane's halt: it left a request only where its port is spent
 abbrev pub IsWhy : Option Ending → Bool → Halt → List Asked → List (List ℕ) → Type 0
-IsWhy end broke (Halts.ReadOut ending) left unput = (end ≡ Some ending) × (left ≡ []) × (unput ≡ [])
-IsWhy end broke Halts.SinkFailed left unput = broke ≡ true
-IsWhy end broke _ left unput = Unit {0}
+IsWhy end broke (Halts.RequestsEnded ending) left unput = (end ≡ Some ending) × (left ≡ []) × (unput ≡ [])
+IsWhy end broke Halts.SinkFailed left unput = (broke ≡ true) × (left ≡ [])
+IsWhy end broke Halts.PortSpent left unput = (left ≢ []) × (unput ≡ [])
+IsWhy end broke Halts.CellSpent left unput = left ≡ []
+
+pub left-by-port : (end : Option Ending) (broke : Bool) (halt : Halt) (left : List Asked)
+    (unput : List (List ℕ)) → IsWhy end broke halt left unput → left ≢ []
+    → halt ≡ Halts.PortSpent
+left-by-port end broke (Halts.RequestsEnded ending) left unput why some = absurd (some why.1)
+left-by-port end broke Halts.SinkFailed left unput why some = absurd (some why.1)
+left-by-port end broke Halts.PortSpent left unput why some = refl
+left-by-port end broke Halts.CellSpent left unput why some = absurd (some why)
 
 -- a lane that halted so: the requests that it was given, with their replies
-pub record IsLaneAnswered (end : Option Ending) (broke : Bool) (halt : Halt) (turns : List Turn) (asked : List Asked)
+pub record IsLaneAnswered (end : Option Ending) (broke : Bool) (halt : Halt)
+    (puts : List (Call Put Written)) (turns : List Turn) (asked : List Asked)
     (texts : List (List ℕ)) : Type 0 where
   pub them : List Turn
   pub left : List Asked
@@ -210,6 +224,9 @@ pub record IsLaneAnswered (end : Option Ending) (broke : Bool) (halt : Halt) (tu
   pub few : length left + length unput ≤ 1
   pub did : exchanges_of them ≡ exchanges_of turns
   pub why : IsWhy end broke halt left unput
+  pub operations : AreOperations left
+  -- the lane at whose reply the sink failed lacks nothing
+  pub fails : FailedIn puts texts → (left ≡ []) × (unput ≡ [])
 
 asked_of-append : (xs ys : List Turn) → asked_of (xs ++ ys) ≡ asked_of xs ++ asked_of ys
 unfolding asked_of
@@ -223,14 +240,17 @@ unfolding AreAnswered
 answered-append [] ys first second = second
 answered-append (x ∷ xs) ys (is, first) second = (is, answered-append xs ys first second)
 
-finished : (end : Option Ending) (broke : Bool) (halt : Halt) (last_takes : List (Call Take Taken)) (last_puts : List (Call Put Written))
+finished : (end : Option Ending) (broke : Bool) (halt : Halt) (puts : List (Call Put Written))
+    (last_takes : List (Call Take Taken)) (last_puts : List (Call Put Written))
     (turns last : List Turn) (asked last_asked left : List Asked) (texts unput : List (List ℕ))
-    → (front : Fronts end broke last_takes last_puts turns last asked texts)
+    → (front : Fronts end broke puts last_takes last_puts turns last asked texts)
     → AreAsking last_asked last → front.rest ≡ last_asked ++ left
     → front.rear ++ unput ≡ replies_to last → length left + length unput ≤ 1
-    → IsWhy end broke halt left unput → IsLaneAnswered end broke halt (turns ++ last) asked texts
-finished end broke halt last_takes last_puts turns last asked last_asked left texts unput front rear_turns
-    rest rear few why = record {
+    → IsWhy end broke halt left unput → AreOperations left
+    → (FailedIn last_puts front.rear → (left ≡ []) × (unput ≡ []))
+    → IsLaneAnswered end broke halt (puts ++ last_puts) (turns ++ last) asked texts
+finished end broke halt puts last_takes last_puts turns last asked last_asked left texts unput front
+    rear_turns rest rear few why operations fails = record {
       them = front.them ++ rear_turns.them;
       left = left;
       unput = unput;
@@ -247,6 +267,8 @@ finished end broke halt last_takes last_puts turns last asked last_asked left te
       did = exchanges_of-append front.them rear_turns.them
           ∙ ap (λ xs. exchanges_of front.them ++ xs) rear_turns.did ∙ front.did;
       why = why;
+      operations = operations;
+      fails = λ failed. fails (front.fails failed);
     }
 
 -- what the last call gave
@@ -283,15 +305,16 @@ gave-one end take (asked ∷ rest) goes gives = record {
   given = gives.0;
 }
 
-left-goes : (next : Next) (asked : Asked) → IsLeft next asked → (ending : Ending) → next ≡ Stop ending → ⊥
+pub left-goes : (next : Next) (asked : Asked) → IsLeft next asked → (ending : Ending) → next ≡ Stop ending → ⊥
 left-goes next asked is ending stops = subst (λ n. IsLeft n asked) stops is
 
 -- what the last put put: its reply, or nothing
-record PutLast (broke : Bool) (turn : Turn) (rear : List (List ℕ)) : Type 0 where
+record PutLast (broke : Bool) (put : Call Put Written) (turn : Turn) (rear : List (List ℕ)) : Type 0 where
   unput : List (List ℕ)
   is : rear ++ unput ≡ replies_to (turn ∷ [])
   few : length unput ≤ 1
   fault : broke ≡ true
+  fails : FailedIn (put ∷ []) rear → unput ≡ []
 
 refused-goes : (outcome : Written) (P Q : Type 0) → IfDone outcome ⊥ (Unit {0}) → IfDone outcome P Q
     → Q
@@ -300,13 +323,14 @@ refused-goes (SinkFailed reply) P Q refused is = is
 
 put-last : (broke : Bool) (take : Call Take Taken) (put : Call Put Written) (turn : Turn) (rear : List (List ℕ))
     → IsReplied take put turn → IfDone put.outcome ⊥ (Unit {0}) → SendsCalls broke (put ∷ []) rear
-    → PutLast broke turn rear
-unfolding SendsCalls replies_to
+    → PutLast broke put turn rear
+unfolding FailedIn SendsCalls replies_to
 put-last broke take put turn [] is refused sends = record {
   unput = reply_of turn ∷ [];
   is = refl;
   few = omega arith;
   fault = sends.0;
+  fails = λ failed. absurd failed;
 }
 put-last broke take put turn (text ∷ texts) is refused sends = record {
   unput = [];
@@ -315,68 +339,87 @@ put-last broke take put turn (text ∷ texts) is refused sends = record {
       ∙ ap (λ t. t ∷ []) (sends.0 ∙ text-of-turn take put turn is);
   few = omega arith;
   fault = (refused-goes put.outcome _ _ refused sends.1).1;
+  fails = λ failed. refl;
 }
 
 put-none : (broke : Bool) (rear : List (List ℕ)) → SendsCalls broke [] rear → rear ≡ []
 unfolding SendsCalls
 put-none broke rear sends = sends
 
-nothing-replied : replies_to [] ≡ []
-unfolding replies_to
-nothing-replied = refl
-
-one-replied : (turn : Turn) → reply_of turn ∷ [] ≡ replies_to (turn ∷ [])
-unfolding replies_to
-one-replied turn = refl
-
 one-asking : (asked : Asked) (next : Next) (turn : Turn) → IsGivenBy asked next → IsTurnOf next turn
     → AreAsking (asked ∷ []) (turn ∷ [])
 one-asking asked next turn given is =
     more-asking asked turn [] [] (turn-asking next asked turn given is) none-asking
 
-lane-ends : (end : Option Ending) (broke : Bool) (halt : Halt) (last_takes : List (Call Take Taken))
+pub no-operations : AreOperations []
+unfolding AreOperations
+no-operations = tt
+
+pub one-operation : (one : Asked) (op : Op) → one.asked ≡ Some op → AreOperations (one ∷ [])
+unfolding AreOperations
+one-operation one op is = ((op, is), tt)
+
+-- what a lane left is an operation
+left-asks : (one : Asked) (next : Next) (asked : Asked) → IsLeft next asked → IsGivenBy one next
+    → AreOperations (one ∷ [])
+left-asks one (Ask cookie form op) asked is given =
+    one-operation one op (ap (λ (a : Asked). a.asked) given)
+left-asks one (Refuse cookie form number) asked is given = absurd is
+left-asks one (Stop ending) asked is given = absurd is
+
+pub some-asked : (one : Asked) → (one ∷ []) ≢ []
+some-asked one is = cc
+
+lane-ends : (end : Option Ending) (broke : Bool) (halt : Halt) (puts : List (Call Put Written)) (last_takes : List (Call Take Taken))
     (last_puts : List (Call Put Written)) (turns last : List Turn) (left asked : List Asked)
     (texts : List (List ℕ)) → IsLast halt last_takes last_puts last left
-    → Fronts end broke last_takes last_puts turns last asked texts
-    → IsLaneAnswered end broke halt (turns ++ last) asked texts
-lane-ends end broke _ _ _ turns _ _ asked texts (read_out take ending is) front =
+    → Fronts end broke puts last_takes last_puts turns last asked texts
+    → IsLaneAnswered end broke halt (puts ++ last_puts) (turns ++ last) asked texts
+lane-ends end broke _ puts _ _ turns _ _ asked texts (read_out take ending is) front =
     let rest = gave-end end take ending front.rest is front.gives in
     let rear = put-none broke front.rear front.sends in
-    finished end broke (Halts.ReadOut ending) _ _ turns [] asked [] [] texts [] front none-asking
-    rest.0 (append-nil front.rear ∙ rear ∙ sym nothing-replied) (omega arith) (rest.1, refl, refl)
-lane-ends end broke _ _ _ turns _ _ asked texts (sink_failed take put turn is refused) front =
+    finished end broke (Halts.RequestsEnded ending) puts _ _ turns [] asked [] [] texts [] front none-asking
+    rest.0 (append-nil front.rear ∙ rear ∙ sym replies_to-none) (omega arith) (rest.1, refl, refl) no-operations
+    (λ failed. (refl, refl))
+lane-ends end broke _ puts _ _ turns _ _ asked texts (sink_failed take put turn is refused) front =
     let one = gave-one end take front.rest (stop-turn take.outcome.next turn is.turn_of) front.gives in
     let rear = put-last broke take put turn front.rear is refused front.sends in
-    finished end broke Halts.SinkFailed _ _ turns (turn ∷ []) asked (one.one ∷ []) [] texts rear.unput
+    finished end broke Halts.SinkFailed puts _ _ turns (turn ∷ []) asked (one.one ∷ []) [] texts rear.unput
     front (one-asking one.one take.outcome.next turn one.given is.turn_of) one.is rear.is
-    (omega (arith, rear.few)) rear.fault
-lane-ends end broke _ _ _ turns _ _ asked texts (port_spent take asks is) front =
+    (omega (arith, rear.few)) (rear.fault, refl) no-operations (λ failed. (refl, rear.fails failed))
+lane-ends end broke _ puts _ _ turns _ _ asked texts (port_spent take asks is) front =
     let one = gave-one end take front.rest (left-goes take.outcome.next asks is) front.gives in
     let rear = put-none broke front.rear front.sends in
-    finished end broke Halts.PortSpent _ _ turns [] asked [] (one.one ∷ []) texts [] front none-asking
-    one.is (append-nil front.rear ∙ rear ∙ sym nothing-replied) (omega arith) tt
-lane-ends end broke _ _ _ turns _ _ asked texts reader_spent front =
+    finished end broke Halts.PortSpent puts _ _ turns [] asked [] (one.one ∷ []) texts [] front none-asking
+    one.is (append-nil front.rear ∙ rear ∙ sym replies_to-none) (omega arith)
+    (some-asked one.one, refl) (left-asks one.one take.outcome.next asks is one.given)
+    (λ failed. absurd (none-failed front.rear failed))
+lane-ends end broke _ puts _ _ turns _ _ asked texts reader_spent front =
     let rest = gave-none end front.rest front.gives in
     let rear = put-none broke front.rear front.sends in
-    finished end broke Halts.CellSpent _ _ turns [] asked [] [] texts [] front none-asking rest
-    (append-nil front.rear ∙ rear ∙ sym nothing-replied) (omega arith) tt
-lane-ends end broke _ _ _ turns _ _ asked texts (writer_spent take turn is) front =
+    finished end broke Halts.CellSpent puts _ _ turns [] asked [] [] texts [] front none-asking rest
+    (append-nil front.rear ∙ rear ∙ sym replies_to-none) (omega arith) refl no-operations
+    (λ failed. (refl, refl))
+lane-ends end broke _ puts _ _ turns _ _ asked texts (writer_spent take turn is) front =
     let one = gave-one end take front.rest (stop-turn take.outcome.next turn is) front.gives in
     let rear = put-none broke front.rear front.sends in
-    finished end broke Halts.CellSpent _ _ turns (turn ∷ []) asked (one.one ∷ []) [] texts
+    finished end broke Halts.CellSpent puts _ _ turns (turn ∷ []) asked (one.one ∷ []) [] texts
     (reply_of turn ∷ []) front (one-asking one.one take.outcome.next turn one.given is) one.is
-    (ap (λ them. them ++ reply_of turn ∷ []) rear ∙ one-replied turn) (omega arith) tt
+    (ap (λ them. them ++ reply_of turn ∷ []) rear ∙ replies_to-one turn) (omega arith) refl no-operations
+    (λ failed. absurd (none-failed front.rear failed))
 
 -- A lane served requests until it halted: those that its calls to the reader gave, with the replies
 -- that its calls to the writer put.
 pub lane-answered : (end : Option Ending) (broke : Bool) (halt : Halt) (takes : List (Call Take Taken))
     (puts : List (Call Put Written)) (turns : List Turn) (left asked : List Asked)
     (texts : List (List ℕ)) → HasServed halt takes puts turns left → GivesCalls end takes asked
-    → SendsCalls broke puts texts → IsLaneAnswered end broke halt turns asked texts
+    → SendsCalls broke puts texts → IsLaneAnswered end broke halt puts turns asked texts
 lane-answered end broke halt takes puts turns left asked texts is gives sends =
-    subst (λ (them : List Turn). IsLaneAnswered end broke halt them asked texts) (sym is.turns_are)
-    (lane-ends end broke halt is.last_takes is.last_puts is.served is.last left asked texts is.is_last
+    subst (λ (them : List Turn). IsLaneAnswered end broke halt puts them asked texts) (sym is.turns_are)
+    (subst (λ (them : List (Call Put Written)).
+    IsLaneAnswered end broke halt them (is.served ++ is.last) asked texts) (sym is.puts_are)
+    (lane-ends end broke halt is.served_puts is.last_takes is.last_puts is.served is.last left asked texts is.is_last
     (fronts end broke is.served_takes is.last_takes is.served_puts is.last_puts is.served is.last asked
     texts is.are_served
     (subst (λ (them : List (Call Take Taken)). GivesCalls end them asked) is.takes_are gives)
-    (subst (λ (them : List (Call Put Written)). SendsCalls broke them texts) is.puts_are sends)))
+    (subst (λ (them : List (Call Put Written)). SendsCalls broke them texts) is.puts_are sends))))

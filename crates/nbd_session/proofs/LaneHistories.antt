@@ -26,7 +26,7 @@ differ-eqb a b differ = grind arith
 pub same-eqb : (a : ℕ) → nat_eq a a ≡ true
 same-eqb a = grind arith
 
-one-name : (a b : ℕ) → (a ∷ []) ≡ (b ∷ []) → a ≡ b
+pub one-name : (a b : ℕ) → (a ∷ []) ≡ (b ∷ []) → a ≡ b
 one-name a b is = cc
 
 -- a pass has the name of a lane where the lane is the one
@@ -170,11 +170,82 @@ sends-lane k (one ∷ history) (sent ∷ all) failed (is, sends) =
         (sym (behind rest).0)
         (unput-sends failed (calls_of (k ∷ []) history) (behind rest).1 (behind rest).2)) sends
 
+-- ---- where the sink failed
+-- it failed at one of these calls, which put the last of these texts as far as it went
+unfoldable pub FailedIn : List (Call Put Written) → List (List ℕ) → Type 0
+FailedIn [] texts = ⊥
+FailedIn (put ∷ puts) [] = ⊥
+FailedIn (put ∷ puts) (text ∷ texts) = IfDone put.outcome (FailedIn puts texts) (Unit {0})
+
+pub none-failed : (texts : List (List ℕ)) → FailedIn [] texts → ⊥
+unfolding FailedIn
+none-failed texts failed = failed
+
+pub failed-some : (puts : List (Call Put Written)) (texts : List (List ℕ)) → FailedIn puts texts
+    → texts ≢ []
+unfolding FailedIn
+failed-some [] texts failed = absurd failed
+failed-some (put ∷ puts) [] failed = absurd failed
+failed-some (put ∷ puts) (text ∷ texts) failed = λ is. cc
+
+if-so : (outcome : Written) (P : Type 0) → P → IfDone outcome P (Unit {0})
+if-so (Done reply) P p = p
+if-so (SinkFailed reply) P p = tt
+
+-- a put was done, or not, whatever that says
+which : (outcome : Written) (P Q : Type 0) → IfDone outcome P Q
+    → P ⊎ ((R : Type 0) → IfDone outcome R (Unit {0}))
+which (Done reply) P Q is = inl is
+which (SinkFailed reply) P Q is = inr (λ R. tt)
+
+fails-here : (one : Entry Put Written) (history : List (Entry Put Written)) (sent : From (List ℕ))
+    (all : List (From (List ℕ))) → one.name ≡ sent.list ∷ []
+    → ((R : Type 0) → IfDone one.outcome R (Unit {0}))
+    → FailedIn (calls_of (sent.list ∷ []) (one ∷ history)) (items_from sent.list (sent ∷ all))
+unfolding FailedIn calls_of items_from
+fails-here one history sent all name refused =
+    rw (same-lane sent.list sent.list one.name name, same-eqb sent.list)
+    (refused (FailedIn (calls_of (sent.list ∷ []) history) (items_from sent.list all)))
+
+fails-more : (k : ℕ) (one : Entry Put Written) (history : List (Entry Put Written))
+    (sent : From (List ℕ)) (all : List (From (List ℕ))) → one.name ≡ sent.list ∷ []
+    → FailedIn (calls_of (k ∷ []) history) (items_from k all)
+    → FailedIn (calls_of (k ∷ []) (one ∷ history)) (items_from k (sent ∷ all))
+unfolding FailedIn calls_of items_from
+fails-more k one history sent all name failed =
+    rw (same-lane k sent.list one.name name) (both (nat_eq sent.list k))
+  where
+    both : (its : Bool) → FailedIn
+        ((if its then call one.event one.outcome ∷ [] else []) ++ calls_of (k ∷ []) history)
+        (if its then sent.item ∷ items_from k all else items_from k all)
+    both true = if-so one.outcome (FailedIn (calls_of (k ∷ []) history) (items_from k all)) failed
+    both false = failed
+
+-- where it failed it did so at a call of one lane
+pub fails-lane : (history : List (Entry Put Written)) (all : List (From (List ℕ)))
+    → Sends history all true
+    → (k : ℕ) × FailedIn (calls_of (k ∷ []) history) (items_from k all)
+unfolding Sends
+fails-lane [] [] sends = absurd sends
+fails-lane [] (sent ∷ all) sends = absurd sends
+fails-lane (one ∷ history) [] sends = absurd sends
+fails-lane (one ∷ history) (sent ∷ all) (is, sends) =
+    by (which one.outcome _ _ sends) (λ rest. fails-lane history all rest)
+  where
+    by : (Sends history all true) ⊎ ((R : Type 0) → IfDone one.outcome R (Unit {0}))
+        → (Sends history all true
+        → (k : ℕ) × FailedIn (calls_of (k ∷ []) history) (items_from k all))
+        → (k : ℕ) × FailedIn (calls_of (k ∷ []) (one ∷ history)) (items_from k (sent ∷ all))
+    by (inl rest) more =
+        let found = more rest in
+        (found.0, fails-more found.0 one history sent all is.name found.1)
+    by (inr refused) more = (sent.list, fails-here one history sent all is.name refused)
+
 -- ---- no other lane's
-nothing : {X : Type 0} (x : X) (xs ys : List X) → (x ∷ xs) ++ ys ≡ [] → ⊥
+pub nothing : {X : Type 0} (x : X) (xs ys : List X) → (x ∷ xs) ++ ys ≡ [] → ⊥
 nothing x xs ys is = cc
 
-below-or-not : (k count : ℕ) → (k < count) ⊎ (count ≤ k)
+pub below-or-not : (k count : ℕ) → (k < count) ⊎ (count ≤ k)
 below-or-not k count = grind arith
 
 -- no request is another lane's, where no other made a call

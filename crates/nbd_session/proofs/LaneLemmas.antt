@@ -230,7 +230,7 @@ after-put take turn puts (Some Halts.CellSpent) is put = (
       (sym put) (writer_spent take turn is),
 )
 after-put take turn puts (Some Halts.PortSpent) is put = absurd put
-after-put take turn puts (Some (Halts.ReadOut ending)) is put = absurd put
+after-put take turn puts (Some (Halts.RequestsEnded ending)) is put = absurd put
 
 -- a put isn't answered that the port is spent
 pub put-unspent : (put : Put) (puts : List (Call Put Written)) (result : Option Halt)

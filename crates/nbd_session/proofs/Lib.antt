@@ -1,3 +1,4 @@
+mod AloneLemmas
 mod ChunkLemmas
 mod CountLemmas
 mod DecidedRequests
@@ -8,8 +9,10 @@ mod LandingLemmas
 mod LaneAnswers
 mod LaneHistories
 mod LaneLemmas
+mod LaneReads
 mod MergeLemmas
 mod OneLaneLemmas
+mod OneLaneSessions
 mod PassLemmas
 mod ReaderLemmas
 mod ReadingLemmas

@@ -23,6 +23,7 @@ use Rattle.nbd_stream.proofs.StreamLemmas.{split, Spelled, Tail, tail-once}
 use Rattle.nbd_hand.proofs.DecidedOptions as Options
 use Rattle.nbd_hand.proofs.DecidedOptions.{End, cut_of, cut-none, cut-some, ByInput}
 use Rattle.nbd_session.proofs.DecidedRequests as Requests
+use Rattle.nbd_session.proofs.RequestLemmas.{asked_of-length}
 use Rattle.nbd_wire.specs.Fields.{u32_text}
 use Rattle.nbd_wire.proofs.FieldLemmas.{u32-first}
 
@@ -110,11 +111,6 @@ unfolding Spells Spelled Requests.IsWhole asked_of
 requests-spelled structured [] text is = is
 requests-spelled structured (turn ∷ turns) text is =
     (is.0, is.1, is.2, is.3.message, requests-spelled structured turns is.1 is.4)
-
-asked_of-length : (turns : List Turn) → length (asked_of turns) ≡ length turns
-unfolding asked_of
-asked_of-length [] = refl
-asked_of-length (turn ∷ turns) = omega (arith, asked_of-length turns)
 
 abbrev OptionsTail : List ClientOption → Course → Option ClientOption → List ℕ → List ℕ → Type 0
 OptionsTail options course last taken all =

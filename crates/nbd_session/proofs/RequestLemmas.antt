@@ -7,6 +7,7 @@ use Rattle.plain_disk.specs.declared.operation.Reply.TheVariants.{Errno}
 use Rattle.io_edge.specs.Outlet.{Outlet}
 use Rattle.nbd_stream.specs.declared.ending.Ending.{Ending}
 use Rattle.nbd_stream.specs.declared.ending.Ending.TheVariants.{TooMany, PortSpent, WriteFault}
+use Rattle.nbd_session.specs.Asking.{asked_of}
 use Rattle.nbd_session.specs.declared.forms.Form.{Form}
 use Rattle.nbd_session.specs.declared.requests.Next.TheVariants.{Ask, Stop}
 use Rattle.nbd_stream.specs.Endings.{IsCount}
@@ -50,7 +51,7 @@ pub replies_to-none : replies_to [] ≡ []
 unfolding replies_to
 replies_to-none = refl
 
-replies_to-one : (turn : Turn) →
+pub replies_to-one : (turn : Turn) →
     reply_text turn.form turn.cookie turn.reply ∷ [] ≡ replies_to (turn ∷ [])
 unfolding replies_to
 replies_to-one turn = refl
@@ -60,6 +61,11 @@ unfolding replies_to
 replies_to-append [] ys = refl
 replies_to-append (x ∷ xs) ys =
     ap (λ t. reply_text x.form x.cookie x.reply ∷ t) (replies_to-append xs ys)
+
+pub asked_of-length : (turns : List Turn) → length (asked_of turns) ≡ length turns
+unfolding asked_of
+asked_of-length [] = refl
+asked_of-length (turn ∷ turns) = omega (arith, asked_of-length turns)
 
 pub exchanges_of-append : (xs ys : List Turn) →
     exchanges_of (xs ++ ys) ≡ exchanges_of xs ++ exchanges_of ys

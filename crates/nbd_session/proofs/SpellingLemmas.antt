@@ -1,6 +1,6 @@
 -- Why the chunks of a session spell its replies.
-use Rattle.std.proofs.Common.{◌≡◌, ℕ, ◌^◌, ◌<◌, Bool, List, [], ◌∷◌, ◌++◌, length, Option, Some}
-use Rattle.std.proofs.Common.{ap, ◌∙◌, sym, subst}
+use Rattle.std.proofs.Common.{◌≡◌, ℕ, ◌^◌, ◌<◌, Bool, true, false, List, [], ◌∷◌, ◌++◌, length, Option}
+use Rattle.std.proofs.Common.{Some, nat_eq, if◌then◌else◌, ap, ◌∙◌, sym, subst}
 use Rattle.std.specs.List.{AllByRecursion}
 use Rattle.plain_disk.specs.declared.operation.Op.{Op}
 use Rattle.plain_disk.specs.declared.operation.Op.TheVariants as Ops
@@ -8,14 +8,18 @@ use Rattle.plain_disk.specs.declared.operation.Reply.TheVariants.{Content}
 use Rattle.nbd_stream.specs.declared.ending.Ending.{Ending}
 use Rattle.nbd_wire.specs.ReadReplying.Parts.{Part, AreHeld, parts_text}
 use Rattle.nbd_wire.specs.ReadReplying.Replies.{Answer, IsAnswer, IsDoneOnce, Spell, chunks_of}
-use Rattle.nbd_hand.specs.Handshakes.{Stage, greeted, negotiating, served}
+use Rattle.nbd_hand.specs.Handshakes.{Stage, agreed_in, greeted, negotiating, served}
 use Rattle.nbd_session.specs.declared.forms.Form.{Form}
 use Rattle.nbd_session.specs.declared.forms.Form.TheVariants.{Chunks}
+use Rattle.nbd_session.specs.Asking.{Asked, SpellsAsked, asked_of}
+use Rattle.nbd_session.specs.Flights.{AreAnswered, FlightLog}
+use Rattle.nbd_session.specs.Flights as Flights
 use Rattle.nbd_session.specs.Forms.{form_of}
+use Rattle.nbd_session.specs.Merges.{From, items_from, items_of}
 use Rattle.nbd_session.specs.Replies.{IsAnswerIn, answer_in, reply_text}
 use Rattle.nbd_session.specs.Requests.{IsMessage, operation_of}
 use Rattle.nbd_session.specs.Session.{Log, IsInput}
-use Rattle.nbd_session.specs.Spelling.{IsSpeltTurn, ReadsAreSpelt}
+use Rattle.nbd_session.specs.Spelling.{IsSpeltTurn, LanesAreSpelt, ReadsAreSpelt}
 use Rattle.nbd_session.specs.Turns.{Turn, IsAnswered, IsTurn, Spells}
 use Rattle.nbd_session.proofs.FitLemmas.{chunked-by, content-size, turn-fits}
 
@@ -96,6 +100,64 @@ turns-spelt laws structured (turn ∷ turns) bytes spells = (
 none-spelt : (turns : List Turn) → turns ≡ [] → AllByRecursion IsSpeltTurn turns
 none-spelt turns none = rw none tt
 
+-- ---- with several requests in flight
+-- each of these requests is a message
+unfoldable AreMessages : Bool → List Asked → Type 0
+AreMessages structured [] = Unit {0}
+AreMessages structured (one ∷ asked) =
+    ((bytes : List ℕ) × IsMessage structured bytes one.cookie one.asked one.form)
+    × AreMessages structured asked
+
+spelt-messages : (structured : Bool) (asked : List Asked) (text : List ℕ)
+    → SpellsAsked structured asked text → AreMessages structured asked
+unfolding SpellsAsked AreMessages
+spelt-messages structured [] text spells = tt
+spelt-messages structured (one ∷ asked) text spells =
+    ((spells.0, spells.3), spelt-messages structured asked spells.1 spells.4)
+
+-- so is each of one lane
+messages-from : (structured : Bool) (k : ℕ) (parts : List (From Asked))
+    → AreMessages structured (items_of parts) → AreMessages structured (items_from k parts)
+unfolding AreMessages items_of items_from
+messages-from structured k [] are = tt
+messages-from structured k (one ∷ parts) (is, are) =
+    both (nat_eq one.list k) (messages-from structured k parts are)
+  where
+    both : (its : Bool) → AreMessages structured (items_from k parts)
+        → AreMessages structured
+        (if its then one.item ∷ items_from k parts else items_from k parts)
+    both true rest = (is, rest)
+    both false rest = rest
+
+answered-spelt : ChunkLaws → (structured : Bool) (turns : List Turn) (left : List Asked)
+    → AreAnswered turns → AreMessages structured (asked_of turns ++ left)
+    → AllByRecursion IsSpeltTurn turns
+unfolding AreAnswered AreMessages asked_of
+answered-spelt laws structured [] left answered are = tt
+answered-spelt laws structured (turn ∷ turns) left (answered, rest) (is, are) = (
+  turn-spelt laws structured is.0 turn (record { message = is.1; answered = answered }),
+  answered-spelt laws structured turns left rest are,
+)
+
+lane-spelt : ChunkLaws → (depth : ℕ) (stage : Stage) (flight : FlightLog) (ending : Ending)
+    → Flights.IsInput depth stage flight ending → (k : ℕ) → k < depth
+    → AllByRecursion IsSpeltTurn (flight.lanes k)
+lane-spelt laws depth greeted flight ending is k below = none-spelt (flight.lanes k) (is.2 k).0
+lane-spelt laws depth negotiating flight ending is k below = none-spelt (flight.lanes k) (is.2 k).0
+lane-spelt laws depth served flight ending is k below =
+    let structured = (agreed_in (Flights.handshake_of flight)).structured in
+    let merge = is.6.taken in
+    answered-spelt laws structured (flight.lanes k) (flight.left k) (is.6.answered k below)
+    (subst (λ (them : List Asked). AreMessages structured them) (merge.each k below)
+    (messages-from structured k merge.parts
+    (subst (λ (them : List Asked). AreMessages structured them) (sym merge.is)
+    (spelt-messages structured flight.asked is.4.text is.4.spells))))
+
+pub lanes-spelt : ChunkLaws → LanesAreSpelt
+lanes-spelt laws depth flight ending is k below =
+    lane-spelt laws depth flight.stage flight ending is k below
+
+-- ---- with one
 spelt-at : ChunkLaws → (stage : Stage) (log : Log) (ending : Ending) → IsInput stage log ending →
     AllByRecursion IsSpeltTurn log.turns
 spelt-at laws greeted log ending is = none-spelt log.turns is.0

@@ -1,5 +1,5 @@
 -- The lanes of a session, before and after they served it.
-use Rattle.std.specs.Prelude.{ℕ, ◌≡◌, ◌<◌, ◌⊎◌, ◌||◌, Bool, true, false, List, [], ◌∷◌, length, Option}
+use Rattle.std.specs.Prelude.{ℕ, ◌≡◌, ◌≢◌, ◌<◌, ◌⊎◌, ◌||◌, Bool, true, false, List, [], ◌∷◌, length, Option}
 use Rattle.std.specs.Prelude.{Some, Ok, slice_index_or}
 use Rattle.io_edge.specs.Intake.{Intake}
 use Rattle.io_edge.specs.Outlet.{Outlet}
@@ -14,7 +14,7 @@ use Rattle.plain_disk.specs.Plain.{Exchange}
 use Rattle.nbd_session.specs.declared.lane.Halt.{Halt}
 use Rattle.nbd_session.specs.declared.lane.Halt.TheVariants.{PortSpent, CellSpent}
 use Rattle.nbd_session.specs.declared.lane.Lane.{Lane}
-use Rattle.nbd_session.specs.declared.lanes.Flown.{Flown}
+use Rattle.nbd_session.specs.declared.lanes.LanesServed.{LanesServed}
 use Rattle.nbd_session.specs.declared.reader.Reader.{Reader}
 use Rattle.nbd_session.specs.declared.reader.Reading.{Reading}
 use Rattle.nbd_session.specs.declared.reader.Take.{Take}
@@ -115,6 +115,11 @@ abbrev pub IsOneSpent : {P : Type 0} → (P → Type 0) → List P → Type 0
 IsOneSpent is_spent ports =
     (k : ℕ) × (k < length ports) × ((port : _) → is_spent (slice_index_or ports k port))
 
+-- a lane left a request unanswered only where its port is spent
+abbrev pub LeavesSpent : {P : Type 0} → (P → Type 0) → List P → (ℕ → List Asked) → Type 0
+LeavesSpent is_spent ports left = (k : ℕ) (port : _) → k < length ports → left k ≢ []
+    → is_spent (slice_index_or ports k port)
+
 -- ---- how the lanes halted
 -- since a port is spent, or a cell
 abbrev pub is_spent_halt : Option Halt → Bool
@@ -133,14 +138,15 @@ any_spent (lane ∷ lanes) = is_spent_halt lane.halt || any_spent lanes
 -- its lane asked.
 pub record HasLanded {S K P : Type 0} (intake : S → Intake) (outlet : K → Outlet)
     (usable is_spent : P → Type 0) (did : P → P → List Exchange → Type 0) (export : Export)
-    (begun : Reading S) (start : Writing K) (ports : List P) (flown : Flown S K P) : Type 0 where
-  pub usable_ports : AreUsable usable flown.ports.items
-  pub spent : flown.end.ending ≡ Endings.PortSpent → IsOneSpent is_spent flown.ports.items
-  pub out : (flown.end.ending ≡ Endings.WriteFault) ⊎ IsOut (outlet flown.sink)
+    (begun : Reading S) (start : Writing K) (ports : List P) (served : LanesServed S K P) : Type 0 where
+  pub usable_ports : AreUsable usable served.ports.items
+  pub spent : served.end.ending ≡ Endings.PortSpent → IsOneSpent is_spent served.ports.items
+  pub out : (served.end.ending ≡ Endings.WriteFault) ⊎ IsOut (outlet served.sink)
   pub session : (a : Moment) (agreed : Agreed) (hand : Handshake) → a.taken ≡ 0 → a.put ≡ 0
       → begun.structured ≡ agreed.structured
       → Negotiates export a (moment (intake begun.source) (outlet start.sink) begun.taken start.put)
       (Ok agreed) hand
-      → (log : FlightLog) × HaveDone did ports flown.ports.items (λ k. exchanges_of (log.lanes k))
-      × IsFlight (length ports) export flown.end a
-      (moment (intake flown.source) (outlet flown.sink) flown.end.taken flown.end.put) log
+      → (log : FlightLog) × HaveDone did ports served.ports.items (λ k. exchanges_of (log.lanes k))
+      × LeavesSpent is_spent served.ports.items log.left
+      × IsFlight (length ports) export served.end a
+      (moment (intake served.source) (outlet served.sink) served.end.taken served.end.put) log

@@ -92,7 +92,7 @@ pub data IsLast : Halt → List (Call Take Taken) → List (Call Put Written) �
     → Type 0 where
   -- the requests ended
   read_out : (take : Call Take Taken) (ending : Ending) → take.outcome.next ≡ Stop ending
-      → IsLast (Halts.ReadOut ending) (take ∷ []) [] [] []
+      → IsLast (Halts.RequestsEnded ending) (take ∷ []) [] [] []
   -- the sink failed
   sink_failed : (take : Call Take Taken) (put : Call Put Written) (turn : Turn) → IsReplied take put turn
       → IfDone put.outcome ⊥ (Unit {0}) → IsLast Halts.SinkFailed (take ∷ []) (put ∷ []) (turn ∷ []) []

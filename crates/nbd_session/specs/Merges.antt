@@ -32,8 +32,3 @@ module _ {X : Type 0} where
     pub is : items_of parts ≡ merged
     pub from_lists : AreFrom count parts
     pub each : (k : ℕ) → k < count → items_from k parts ≡ lists k
-
--- a merge of one list is that list
-abbrev pub OneListIsItsMerge : Type 0 → Type 0
-OneListIsItsMerge X =
-    (lists : ℕ → List X) (merged : List X) → IsMerge 1 lists merged → merged ≡ lists 0

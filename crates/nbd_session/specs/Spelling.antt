@@ -1,5 +1,5 @@
 -- What the chunks by which a session answers READs spell.
-use Rattle.std.specs.Prelude.{ℕ, ◌≡◌, Bool, List, ◌++◌, length, Some}
+use Rattle.std.specs.Prelude.{ℕ, ◌≡◌, ◌<◌, Bool, List, ◌++◌, length, Some}
 use Rattle.std.specs.List.{AllByRecursion}
 use Rattle.plain_disk.specs.declared.operation.Op.{Op}
 use Rattle.plain_disk.specs.declared.operation.Op.TheVariants.{Read}
@@ -8,6 +8,8 @@ use Rattle.nbd_stream.specs.declared.ending.Ending.{Ending}
 use Rattle.nbd_wire.specs.ReadReplying.Parts.{Part, AreHeld, parts_text}
 use Rattle.nbd_wire.specs.ReadReplying.Replies.{Answer, Spell, chunks_of}
 use Rattle.nbd_session.specs.declared.forms.Form.TheVariants.{Chunks}
+use Rattle.nbd_session.specs.Flights.{FlightLog}
+use Rattle.nbd_session.specs.Flights as Flights
 use Rattle.nbd_session.specs.Replies.{answer_in, reply_text}
 use Rattle.nbd_session.specs.Session.{Log, IsInput}
 use Rattle.nbd_session.specs.Turns.{Turn}
@@ -38,8 +40,15 @@ abbrev pub IsSpeltTurn : Turn → Type 0
 IsSpeltTurn turn =
     (whole : Bool) (offset : ℕ) → turn.form ≡ Chunks whole offset → IsSpelt turn whole offset
 
--- of each session, all READs that were answered by chunks
+-- of each session with one request in flight, all READs that were answered by chunks
 abbrev pub ReadsAreSpelt : Type 0
 ReadsAreSpelt =
     (log : Log) (ending : Ending) → IsInput log.stage log ending →
     AllByRecursion IsSpeltTurn log.turns
+
+-- and of each with several, those of each lane
+abbrev pub LanesAreSpelt : Type 0
+LanesAreSpelt =
+    (depth : ℕ) (flight : FlightLog) (ending : Ending) →
+    Flights.IsInput depth flight.stage flight ending →
+    (k : ℕ) → k < depth → AllByRecursion IsSpeltTurn (flight.lanes k)

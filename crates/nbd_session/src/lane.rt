@@ -8,6 +8,7 @@ ghost use Rattle.nbd_session.specs.Replies.{IsAnswerIn};
 ghost use Rattle.volume_cell.specs.Histories.{call};
 ghost use Rattle.volume_cell.specs.Passes.{IsPassOf, known};
 
+use crate::forms::Form;
 use crate::reader::{Reader, Take, Taken};
 use crate::requests::Next;
 use crate::session::{keep, keep_content, taken_from};
@@ -26,7 +27,7 @@ use volume_cell::{Cell, Pass};
 #[derive(Clone, Copy, PartialEq, Eq)]
 pub enum Halt {
     /// The requests ended so.
-    ReadOut(Ending),
+    RequestsEnded(Ending),
     /// The sink failed, at the lane's reply or before it.
     SinkFailed,
     /// The port takes no operation any more.
@@ -154,79 +155,56 @@ fn answer<R: Threads + Wait + Sync, K: Sink, P: Port>(
     } = taken;
     *spare = kept;
     match next {
-        Next::Stop(ending) => Some(Halt::ReadOut(ending)),
+        Next::Stop(ending) => Some(Halt::RequestsEnded(ending)),
         Next::Refuse {
             cookie,
             form,
             number: error,
         } => {
             let reply = Reply::Errno(error);
-            hand_over(
-                rt,
-                writer,
-                sink,
-                spare,
-                Put {
-                    number,
-                    cookie,
-                    form,
-                    reply,
-                },
-            )
+            hand_over(rt, writer, sink, spare, number, cookie, form, reply)
         }
         Next::Ask { cookie, form, op } => match port.submit(alloc, op, taken_from(alloc, spare)) {
             Ok(Submitted::Replied(reply, buffer)) => {
                 keep(spare, buffer);
-                hand_over(
-                    rt,
-                    writer,
-                    sink,
-                    spare,
-                    Put {
-                        number,
-                        cookie,
-                        form,
-                        reply,
-                    },
-                )
+                hand_over(rt, writer, sink, spare, number, cookie, form, reply)
             }
             Ok(Submitted::Spent) => Some(Halt::PortSpent),
             Err(_) => {
                 let reply = Reply::Errno(NO_MEMORY);
-                hand_over(
-                    rt,
-                    writer,
-                    sink,
-                    spare,
-                    Put {
-                        number,
-                        cookie,
-                        form,
-                        reply,
-                    },
-                )
+                hand_over(rt, writer, sink, spare, number, cookie, form, reply)
             }
         },
     }
 }
 
-/// Has the writer put a reply, and keeps its buffer; says why the lane halts where it does.
+/// Has the writer put the reply to the request of this number, and keeps its buffer; says why the lane
+/// halts where it does.
 fn hand_over<R: Threads + Wait + Sync, K: Sink>(
     rt: &R,
     writer: &Cell<Writer<K>>,
     sink: &mut Pass<Writer<K>>,
     spare: &mut Buffer,
-    event: Put,
+    number: u64,
+    cookie: u64,
+    form: Form,
+    reply: Reply,
 ) -> Option<Halt>
     requires sink { IsPassOf writer.now sink.old }
     requires lane { (lane : ℕ) × ((known sink.old).name ≡ lane ∷ []) }
-    requires fits { IsAnswerIn event.form event.reply }
+    requires fits { IsAnswerIn form reply }
     ensures sink { IsPassOf writer.now sink.new }
     ensures full { result ≡ Some Halt.CellSpent →
         length (known sink.new).history ≡ writer.now.limit }
     ensures put { (puts : _) × HasCalled (known sink.old) (known sink.new) puts
-        × IsPut event puts result }
+        × IsPut (record { number = number; cookie = cookie; form = form; reply = reply }) puts result }
 {
+    let event = Put {
+        number,
+        cookie,
+        form,
+        reply,
+    };
     match writer.turn(rt, sink, event) {
         Ok(Written::Done(reply)) => {
             keep_content(spare, reply);

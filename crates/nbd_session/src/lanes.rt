@@ -7,7 +7,7 @@ ghost use Rattle.nbd_stream.specs.Putting.{IsOut};
 ghost use Rattle.nbd_stream.specs.declared.ending.Ending.{Ending};
 ghost use Rattle.nbd_session.specs.Flights.{FlightLog, IsFlight};
 ghost use Rattle.nbd_session.specs.Flying.{AreMade, AreUsable, HasLanded, HaveDone, IsOneSpent};
-ghost use Rattle.nbd_session.specs.Flying.{IsReady, any_spent, is_spent_halt};
+ghost use Rattle.nbd_session.specs.Flying.{IsReady, LeavesSpent, any_spent, is_spent_halt};
 ghost use Rattle.nbd_session.specs.Passing.{HasJoined, HasSplit, IsFirst};
 ghost use Rattle.nbd_session.specs.Puts.{HasWritten};
 ghost use Rattle.nbd_session.specs.Takes.{HasRead};
@@ -36,7 +36,7 @@ const MAX_CALLS: u64 = (1 << 63) - 2;
 
 /// A session that was served, with its source, its sink and its ports.
 #[derive(Drop)]
-pub struct Flown<S, K, P> {
+pub struct LanesServed<S, K, P> {
     pub end: SessionEnd,
     pub source: S,
     pub sink: K,
@@ -53,12 +53,18 @@ type Lanes<S, K, P> = Vec<Lane<Pass<Reader<S>>, Pass<Writer<K>>, P>>;
 /// read of the source.
 ///
 /// Each request is taken by one lane, and a lane answers those that it took in their order. The
-/// session ends with `WriteFault` exactly where the sink's count of faults rose; a lane that finds
-/// that takes no other request. Else it ends with `PortSpent` only where a port is spent, with
-/// `Memory` where memory was wanted for an option's data or for the lanes, and else as
-/// `serve_session` would. At `WriteFault` and `PortSpent` each lane may leave its last request
-/// without its reply, and how the requests came to an end isn't told: the source's count of faults
-/// may have risen too.
+/// session ends with `WriteFault` exactly where the sink's count of faults rose. Then a lane that put
+/// a reply, the last one perhaps in part, lacks nothing more. Each other lane may lack its last reply,
+/// or leave its last operation unanswered if its port is spent.
+///
+/// Else the session ends with `PortSpent` only where a lane left an operation unanswered, since its
+/// port is spent. All replies were put then. It ends with `Memory` where memory was wanted for an
+/// option's data, or for the lanes before any request was read. Else it ends as `serve_session`
+/// would, and each request was answered.
+///
+/// The log tells how the reading ended, if it did. The source's count of faults rose exactly where
+/// it ended with `ReadFault`, also where the session ends with `WriteFault` or `PortSpent`. With one
+/// port the reading hasn't ended then.
 ///
 /// Each lane keeps one buffer, of at most 32 MiB, for the bodies of writes and the contents of
 /// reads, one after the other.
@@ -67,7 +73,7 @@ pub fn serve_lanes<
     S: Source + Send,
     K: Sink + Send,
     P: Port + Send + Drop,
->(rt: &R, alloc: Global, source: S, sink: K, ports: Vec<P>, export: &Export) -> Flown<S, K, P>
+>(rt: &R, alloc: Global, source: S, sink: K, ports: Vec<P>, export: &Export) -> LanesServed<S, K, P>
     requires some { 0 < length ports.items }
     requires few { length ports.items ≤ 4294967295 }
     requires usable { AreUsable P.usable ports.items }
@@ -77,6 +83,7 @@ pub fn serve_lanes<
     ensures out { (result.end.ending ≡ Ending.WriteFault) ⊎ IsOut (K.outlet result.sink) }
     ensures session { (log : FlightLog)
         × HaveDone P.did ports.items result.ports.items (λ k. exchanges_of (log.lanes k))
+        × LeavesSpent P.is_spent result.ports.items log.left
         × IsFlight (length ports.items) export.now result.end
         (moment (S.intake source) (K.outlet sink) 0 0)
         (moment (S.intake result.source) (K.outlet result.sink) result.end.taken result.end.put)
@@ -92,7 +99,7 @@ pub fn serve_lanes<
             let writer = Writer::new(sink, tally.put);
             serve_requests(rt, alloc, reader, writer, ports, export)
         }
-        Err(ending) => Flown {
+        Err(ending) => LanesServed {
             end: end_of(export, ending, tally),
             source,
             sink,
@@ -114,7 +121,7 @@ fn serve_requests<
     writer: Writer<K>,
     ports: Vec<P>,
     export: &Export,
-) -> Flown<S, K, P>
+) -> LanesServed<S, K, P>
     requires some { 0 < length ports.items }
     requires few { length ports.items ≤ 4294967295 }
     requires usable { AreUsable P.usable ports.items }
@@ -160,7 +167,7 @@ fn serve_all<R: Threads + Wait + Sync, S: Source + Send, K: Sink + Send, P: Port
     mut lanes: Lanes<S, K, P>,
     mut left: Vec<P>,
     export: &Export,
-) -> Flown<S, K, P>
+) -> LanesServed<S, K, P>
     requires source { IsPassOf source reading × (source.limit ≡ 2 ^ 63 - 2) }
     requires sink { IsPassOf sink writing × (sink.limit ≡ 2 ^ 63 - 2) }
     requires begun { (begun : Reading S) × (known reading ≡ beginning begun) }
@@ -218,7 +225,7 @@ fn landed<S: Source, K: Sink, P: Drop>(
     reader: Reader<S>,
     writer: Writer<K>,
     ports: Vec<P>,
-) -> Flown<S, K, P>
+) -> LanesServed<S, K, P>
     ensures is { result ≡ record {
       end = record {
         number = export.now.number;
@@ -237,7 +244,7 @@ fn landed<S: Source, K: Sink, P: Drop>(
     let Writer { writing, .. } = writer;
     let Reading { source, taken, .. } = reading;
     let Writing { sink, put, .. } = writing;
-    Flown {
+    LanesServed {
         end: SessionEnd {
             number: export.number,
             ending,
@@ -274,7 +281,7 @@ fn engage<S: Source, K: Sink, P: Port + Drop>(
     for port in ports {
         let source = reader.split(reading);
         let sink = writer.split(writing);
-        add(
+        push_in_room(
             lanes,
             Lane {
                 source,
@@ -323,7 +330,7 @@ fn dismiss<S: Source, K: Sink, P: Port + Drop>(
         } = lane;
         reader.join(reading, source);
         writer.join(writing, sink);
-        add(ports, port);
+        push_in_room(ports, port);
         spent = is_spent(halt, spent);
     }
     spent
@@ -335,12 +342,12 @@ fn is_spent(halt: Option<Halt>, other: bool) -> bool
 {
     match halt {
         Some(Halt::PortSpent | Halt::CellSpent) => true,
-        Some(Halt::ReadOut(_) | Halt::SinkFailed) | None => other,
+        Some(Halt::RequestsEnded(_) | Halt::SinkFailed) | None => other,
     }
 }
 
 /// Adds an item to a list that has room.
-fn add<T: Drop>(list: &mut Vec<T>, item: T)
+fn push_in_room<T: Drop>(list: &mut Vec<T>, item: T)
     requires { length list.old.items + 1 ≤ vec_capacity list.old }
     ensures items { list.new.items ≡ list.old.items ++ item ∷ [] }
     ensures capacity { vec_capacity list.old ≤ vec_capacity list.new }

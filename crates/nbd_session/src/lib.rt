@@ -19,7 +19,8 @@
 //! lie in a cell of `volume_cell` each, so one history tells which lane took which request, and
 //! another which reply went out when. By its clause `session` each request is answered by the lane
 //! that took it, and the replies stand in the order in which they were put. By
-//! `sessions_are_flights` the same clause holds of `serve_session`, with one lane.
+//! `sessions_are_flights` the same clause holds of `serve_session`, with one lane, and says as much.
+//! By `flights_read_as_sessions` the bytes leave no choice in what was asked of the lanes either.
 #![tactic(auto)]
 
 mod ending;
@@ -38,8 +39,8 @@ mod spelling;
 mod writer;
 
 pub use ending::SessionEnd;
-pub use flights::sessions_are_flights;
-pub use lanes::{Flown, serve_lanes};
+pub use flights::{flights_read_as_sessions, sessions_are_flights};
+pub use lanes::{LanesServed, serve_lanes};
 pub use nbd_hand::Export;
 pub use nbd_stream::Ending;
 pub use port::{Port, Submitted};

@@ -1,4 +1,4 @@
-ghost use Rattle.nbd_session.specs.Spelling.{ReadsAreSpelt};
+ghost use Rattle.nbd_session.specs.Spelling.{LanesAreSpelt, ReadsAreSpelt};
 
 use nbd_wire::{chunks_spell_the_reply, replies_are_told_apart};
 
@@ -7,9 +7,11 @@ use nbd_wire::{chunks_spell_the_reply, replies_are_told_apart};
 /// gave, of as many bytes as the READ asked for, or its error, or the error with which the session
 /// itself answered. It is one chunk where the READ asked for that. A client that takes chunks from
 /// there which spell an answer reads this one, and comes to the bytes behind it; the session's own
-/// are such chunks.
+/// are such chunks. So it is with one request in flight (`sessions`) and in each lane with several
+/// (`lanes`).
 pub fn reads_are_spelt()
-    ensures { ReadsAreSpelt }
+    ensures sessions { ReadsAreSpelt }
+    ensures lanes { LanesAreSpelt }
 {
     chunks_spell_the_reply();
     replies_are_told_apart();

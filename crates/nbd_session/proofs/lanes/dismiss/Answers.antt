@@ -33,7 +33,7 @@ loop-lane-preserved g c =
     let ready = subst (IsReady g.P.Port.usable c.args.reader.now c.args.writer.now n) (sym at.1)
     (c.requires.ready n c.in-Some.lane at.0) in
     let room = so.room in
-    let capacity = c.add.ensures.capacity in
+    let capacity = c.push_in_room.ensures.capacity in
     let take = c.join.ensures in
     let put = c.join-in-loop-lane.ensures in
     record {
@@ -43,7 +43,7 @@ loop-lane-preserved g c =
           ready.source.name ready.source.joined take.own take.its;
       puts = joined-more _ _ c.loop-lane.yielded c.in-Some.lane _ _ _ so.puts put.pass.1
           ready.sink.name ready.sink.joined put.own put.its;
-      ports = c.add.ensures.items ∙ ap (λ them. them ++ c.in-Some.lane.port ∷ []) so.ports
+      ports = c.push_in_room.ensures.items ∙ ap (λ them. them ++ c.in-Some.lane.port ∷ []) so.ports
           ∙ sym (map-more (λ lane. lane.port) c.loop-lane.yielded c.in-Some.lane);
       room = omega (arith, room, capacity);
       spent = c.is_spent-spent.ensures
@@ -115,8 +115,8 @@ join-requires-in-loop-lane-clause-child g c =
           ∙ ap (λ (name : List ℕ). name ++ n ∷ []) (sym c.loop-lane.invariant.puts.first.name),
     )
 
-pub add-requires : goal.add-requires
-add-requires g c =
+pub push_in_room-requires : goal.push_in_room-requires
+push_in_room-requires g c =
     let b = c.into_iter-lane-iterator.ensures.into_iter_gives in
     let at = YieldsList-turn (YieldsList-from_vec {s = c.into_iter-lane-iterator.result}
     c.args.lanes.items b.0 (b.1 ∙ c.args.lanes.ok.0)) c.loop-lane.yielded c.loop-lane.lane-iterator

@@ -24,8 +24,8 @@ loop-port-init g c =
       made = λ k lane below port. absurd (omega (arith, below, none));
     }
 
-pub add-requires : goal.add-requires
-add-requires g c =
+pub push_in_room-requires : goal.push_in_room-requires
+push_in_room-requires g c =
     let b = c.into_iter-port-iterator.ensures.into_iter_gives in
     let at = YieldsList-turn (YieldsList-from_vec {s = c.into_iter-port-iterator.result}
     c.args.ports.items b.0 (b.1 ∙ c.args.ports.ok.0)) c.loop-port.yielded c.loop-port.port-iterator
@@ -44,7 +44,7 @@ loop-port-preserved g c =
     let so = c.loop-port.invariant in
     let n = length c.loop-port.yielded in
     let long = length_push c.loop-port.yielded c.in-Some.port in
-    let pushed = c.add.ensures.items in
+    let pushed = c.push_in_room.ensures.items in
     let lane : Lane (ReaderPass g.row.S.Denot) (WriterPass g.row.K.Denot) g.row.P.Denot = record {
       source = c.split-source.result;
       sink = c.split-sink.result;
@@ -54,7 +54,7 @@ loop-port-preserved g c =
     let more = ap (λ l. length l) pushed ∙ length_push c.loop-port.lanes.items lane in
     let count = so.count in
     let room = so.room in
-    let capacity = c.add.ensures.capacity in
+    let capacity = c.push_in_room.ensures.capacity in
     let source = c.split-source.ensures in
     let sink = c.split-sink.ensures in
     let takes = pass-split c.args.reader.now n _ _ c.split-source.result so.takes source.new.0
@@ -70,7 +70,7 @@ loop-port-preserved g c =
       count = omega (arith, more, count, long);
       room = omega (arith, room, capacity);
       made = made-more g.P.Port.usable c.args.reader.now c.args.writer.now c.args.ports.items
-          c.loop-port.lanes.items c.add.new.list.items n lane count pushed takes puts
+          c.loop-port.lanes.items c.push_in_room.new.list.items n lane count pushed takes puts
           (ap (λ v. v.calls) source.new.1) (ap (λ v. v.calls) sink.new.1)
           (subst g.P.Port.usable (sym at.1) (c.requires.usable n c.in-Some.port at.0))
           (λ port. at.1 ∙ same-place c.args.ports.items n c.in-Some.port port at.0) so.made;

@@ -25,7 +25,7 @@ pub returns-in-Err-clause-session : goal.returns-in-Err-clause-session
 returns-in-Err-clause-session g c =
     let n = c.in-Err.ensures.negotiates in
     rw c.end_of.ensures.is (
-      early-flight n.0,
+      early-flight c.in-Err.ending n.0,
       record {
         count = refl;
         each = λ k port below.
@@ -34,6 +34,7 @@ returns-in-Err-clause-session g c =
             ((g.met.P.Port g.world.𝓛 g.world.𝓜 g.world.𝓡 ((λ s x. x), (λ x. x), (λ x. x), λ x. x)).did_none
             (slice_index_or c.args.ports.items k port));
       },
+      λ k port below some. absurd (some refl),
       flight-early _ c.args.export.now _ _ c.in-Err.ending n.0 refl refl c.end_of.ensures.taken_fits
           c.end_of.ensures.put_fits n.1,
     )
