@@ -26,4 +26,5 @@ pub mod GuardLemmas
 pub mod CompareLemmas
 pub mod KeptLemmas
 pub mod LaidLemmas
+pub mod SliceLemmas
 pub mod ZoneEvents

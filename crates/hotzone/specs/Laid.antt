@@ -1,5 +1,5 @@
--- What is made of a part at hand before it is saved: its digests, and it sealed anew.
-use Rattle.std.specs.Prelude.{ℕ, ◌≡◌, ◌+◌, ◌≤◌, List, length, take, MatchBool}
+-- What is made of a part at hand before it is written: its digests, and it sealed anew.
+use Rattle.std.specs.Prelude.{ℕ, ◌≡◌, ◌+◌, ◌*◌, ◌≤◌, List, ◌++◌, length, take, drop, MatchBool}
 use Rattle.hotzone.specs.Sites.{bytes_at, part_at}
 use Rattle.hotzone.specs.Steps.{part_in, resealed}
 use Rattle.hotzone.specs.declared.scratch.Scratch.{Scratch}
@@ -31,3 +31,23 @@ abbrev pub IsSealed : {C : Type 0} → Seals → Worker C → Scratch → Type 0
 IsSealed seals worker scratch =
     MatchBool scratch.is_first (HasSealed seals worker.site (part_in worker 0) scratch.sealed)
     (Unit {0})
+
+-- ---- a part that is sealed anew slice by slice
+-- one of which so many of the first blocks are sealed anew, and the others are as they were
+abbrev pub sealed_upto : Seals → ℕ → ℕ → ℕ → List ℕ → List ℕ
+sealed_upto seals atom first ready part =
+    resealed seals first (take (ready * atom) part) ++ drop (ready * atom) part
+
+-- bytes begin with the zone's first part, of which so many blocks are sealed anew
+pub record HasBegun (seals : Seals) (site : Site) (part : List ℕ) (ready : ℕ) (sealed : List ℕ)
+    : Type 0 where
+  pub room : bytes_at site 0 ≤ length sealed
+  pub within : ready ≤ part_at site 0
+  pub is : take (bytes_at site 0) sealed
+      ≡ sealed_upto seals site.atom (site.blocks.start + 0) ready part
+
+-- so where it is said to be, and that part is at hand
+abbrev pub IsBegun : {C : Type 0} → Seals → Worker C → Scratch → Type 0
+IsBegun seals worker scratch =
+    MatchBool scratch.begun
+    (HasBegun seals worker.site (part_in worker 0) scratch.ready scratch.sealed) (Unit {0})

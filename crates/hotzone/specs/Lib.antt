@@ -3,6 +3,8 @@ pub mod Headings
 pub mod Endings
 pub mod Workers
 pub mod Steps
+pub mod Commits
+pub mod Ciphers
 pub mod Laid
 pub mod Making
 pub mod Known

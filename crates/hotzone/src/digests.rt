@@ -1,8 +1,8 @@
 // Parts of a zone that is guarded by checksum: their digests are compared, and saved.
 
-ghost use Rattle.std.specs.Prelude.{◌≡◌, ◌+◌, ◌*◌, ◌/◌, ◌%◌, ◌<◌, ◌≤◌, length, take, MatchOption};
+ghost use Rattle.std.specs.Prelude.{◌≡◌, ◌+◌, ◌*◌, ◌/◌, ◌%◌, ◌<◌, ◌≤◌, length, take, false, MatchOption};
 ghost use Rattle.hotzone.specs.Sites.{IsPartStart, bytes_at, count_of, part_at};
-ghost use Rattle.hotzone.specs.Laid.{AreLaid, IsSealed};
+ghost use Rattle.hotzone.specs.Laid.{AreLaid, IsBegun, IsSealed};
 ghost use Rattle.hotzone.specs.Steps.{Clashes, SavesPart, TellsPart, part_in, resealed};
 ghost use Rattle.hotzone.specs.Workers.{FitsDisk, HasRoom, IsAsLong};
 ghost use Rattle.hotzone.specs.declared.site.Guard.TheVariants as guards;
@@ -103,12 +103,16 @@ impl<C: SectorCipher + Copy + Sync> Worker<C> {
         requires room { HasRoom self.now.site scratch.old }
         requires sealed { IsSealed (seals_of C.sealed C.opened self.now.site.atom self.now.keys) self.now
             scratch.old }
+        requires begun { IsBegun (seals_of C.sealed C.opened self.now.site.atom self.now.keys) self.now
+            scratch.old }
         requires within { done ≤ count_of self.now.site }
         ensures finds { MatchOption result
             (TellsPart (seals_of C.sealed C.opened self.now.site.atom self.now.keys) self.now done)
             (Clashes (seals_of C.sealed C.opened self.now.site.atom self.now.keys) self.now done) }
         ensures laid { AreLaid self.now done scratch.new }
         ensures sealed { IsSealed (seals_of C.sealed C.opened self.now.site.atom self.now.keys) self.now
+            scratch.new }
+        ensures begun { IsBegun (seals_of C.sealed C.opened self.now.site.atom self.now.keys) self.now
             scratch.new }
         ensures scratch { IsAsLong scratch.old scratch.new }
     {
@@ -142,6 +146,7 @@ impl<C: SectorCipher + Copy + Sync> Worker<C> {
             (take (saved_len (part_at self.now.site done) self.now.site.atom) scratch.new.digests) }
         ensures sealed { IsSealed (seals_of C.sealed C.opened self.now.site.atom self.now.keys) self.now
             scratch.new }
+        ensures begun { scratch.new.begun ≡ false }
         ensures scratch { IsAsLong scratch.old scratch.new }
     {
         let site = self.site;
@@ -155,6 +160,7 @@ impl<C: SectorCipher + Copy + Sync> Worker<C> {
             side: Side::New,
         };
         reseal_into(rt, &self.keys, site.atom, piece, old, &mut scratch.sealed);
+        scratch.begun = false;
         scratch.is_first = done == 0;
         let new = scratch.sealed.front(size);
         let digests = scratch.digests.front(len);

@@ -17,6 +17,7 @@
 //! zone is one that the volume's machine allows its worker.
 #![tactic(auto)]
 
+mod beside;
 mod digests;
 mod ending;
 mod finish;

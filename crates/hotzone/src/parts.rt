@@ -90,7 +90,7 @@ pub fn reseal<R: Threads + Sync, C: SectorCipher + Sync>(
 }
 
 /// Lays bytes at the front of others.
-fn lay_first(bytes: &mut [u8], front: &[u8])
+pub(crate) fn lay_first(bytes: &mut [u8], front: &[u8])
     requires { length front.now ≤ length bytes.old }
     ensures front { take (length front.now) bytes.new ≡ front.now }
     ensures length { length bytes.new ≡ length bytes.old }

@@ -2,7 +2,7 @@
 
 ghost use Rattle.std.specs.Prelude.{◌≡◌, ◌<◌, ◌≤◌, Err};
 ghost use Rattle.hotzone.specs.Headings.{AreMade, MayOpenFrom};
-ghost use Rattle.hotzone.specs.Laid.{AreLaid, IsSealed};
+ghost use Rattle.hotzone.specs.Laid.{AreLaid, IsBegun, IsSealed};
 ghost use Rattle.hotzone.specs.Making.{Makes};
 ghost use Rattle.hotzone.specs.Sites.{IsPartStart, count_of};
 ghost use Rattle.hotzone.specs.Steps.{TellsPart, after_save};
@@ -54,7 +54,8 @@ fn give_up(fault: ZoneFault, next: NextCall) -> Made
 }
 
 impl<C: SectorCipher + Copy + Sync> Worker<C> {
-    /// Digests are compared, the headers are made, and the first part is saved.
+    /// Digests are compared, the headers are made, and the first part is saved; by journal it is
+    /// laid for what seals it anew.
     pub(crate) fn save_first<R: Threads + Sync, D: Disk>(
         &self,
         rt: &R,
@@ -66,6 +67,8 @@ impl<C: SectorCipher + Copy + Sync> Worker<C> {
         requires room { HasRoom self.now.site scratch.old }
         requires sealed { IsSealed (seals_of C.sealed C.opened self.now.site.atom self.now.keys) self.now
             scratch.old }
+        requires begun { IsBegun (seals_of C.sealed C.opened self.now.site.atom self.now.keys) self.now
+            scratch.old }
         requires disk { IsDisk self.now.loaded.valid.sizes.atom
             (all_atoms self.now.loaded.valid.sizes) }
         requires may { MayOpenFrom self.now.loaded (count_of self.now.site) }
@@ -73,11 +76,16 @@ impl<C: SectorCipher + Copy + Sync> Worker<C> {
             (D.device disk.old) (D.device disk.new) self.now SaveFirst self.now result }
         ensures sealed { IsSealed (seals_of C.sealed C.opened self.now.site.atom self.now.keys) self.now
             scratch.new }
+        ensures begun { IsBegun (seals_of C.sealed C.opened self.now.site.atom self.now.keys) self.now
+            scratch.new }
         ensures scratch { IsAsLong scratch.old scratch.new }
     {
         match self.find_clash(rt, scratch, 0) {
             Some(fault) => give_up(fault, NextCall::SaveFirst),
-            None => self.save_made(alloc, scratch, disk),
+            None => {
+                self.lay_part(scratch);
+                self.save_made(alloc, scratch, disk)
+            }
         }
     }
 
@@ -138,9 +146,13 @@ impl<C: SectorCipher + Copy + Sync> Worker<C> {
         requires room { HasRoom self.now.site scratch.old }
         requires sealed { IsSealed (seals_of C.sealed C.opened self.now.site.atom self.now.keys) self.now
             scratch.old }
+        requires begun { IsBegun (seals_of C.sealed C.opened self.now.site.atom self.now.keys) self.now
+            scratch.old }
         ensures makes { Makes (seals_of C.sealed C.opened self.now.site.atom self.now.keys)
             (D.device disk.old) (D.device disk.new) self.now (Save done headers) self.now result }
         ensures sealed { IsSealed (seals_of C.sealed C.opened self.now.site.atom self.now.keys) self.now
+            scratch.new }
+        ensures begun { IsBegun (seals_of C.sealed C.opened self.now.site.atom self.now.keys) self.now
             scratch.new }
         ensures scratch { IsAsLong scratch.old scratch.new }
     {

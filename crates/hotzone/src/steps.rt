@@ -1,11 +1,11 @@
 // The steps of a zone, one device call each.
 
 ghost use Rattle.std.specs.Prelude.{◌≡◌, ◌<◌, ◌≤◌, MatchBool};
-ghost use Rattle.hotzone.specs.Laid.{IsSealed};
+ghost use Rattle.hotzone.specs.Laid.{IsBegun, IsSealed};
 ghost use Rattle.hotzone.specs.Making.{GoesOn, IsZoneDone, Makes};
 ghost use Rattle.hotzone.specs.Steps.{HasMoved, after_open, after_write};
 ghost use Rattle.hotzone.specs.Workers.{IsNextZone, MayGoOn};
-ghost use Rattle.hotzone.specs.Workers.{FitsDisk, MayCommit, first_call};
+ghost use Rattle.hotzone.specs.Workers.{FitsDisk, IsAsLong, MayCommit, first_call};
 ghost use Rattle.hotzone.specs.Sites.{count_of};
 ghost use Rattle.hotzone.specs.declared.worker.NextCall.TheVariants.{Begin, ReadFirst};
 ghost use Rattle.hotzone.specs.declared.worker.NextCall.TheVariants.{Read, Keep, Open};
@@ -177,11 +177,27 @@ impl<C: SectorCipher + Copy + Sync> Worker<C> {
     }
 
     /// The sync behind which all is saved for certain.
-    pub(crate) fn keep<D: Disk>(&self, headers: Headers, disk: &mut D) -> Made
-        ensures { Makes (seals_of C.sealed C.opened self.now.site.atom self.now.keys)
+    pub(crate) fn keep<R: Threads + Sync, D: Disk>(
+        &self,
+        rt: &R,
+        scratch: &mut Scratch,
+        headers: Headers,
+        disk: &mut D,
+    ) -> Made
+        requires fits { FitsDisk C.sector self.now (D.device disk.old) }
+        requires sealed { IsSealed (seals_of C.sealed C.opened self.now.site.atom self.now.keys)
+            self.now scratch.old }
+        requires begun { IsBegun (seals_of C.sealed C.opened self.now.site.atom self.now.keys)
+            self.now scratch.old }
+        ensures makes { Makes (seals_of C.sealed C.opened self.now.site.atom self.now.keys)
             (D.device disk.old) (D.device disk.new) self.now (Keep headers) self.now result }
+        ensures sealed { IsSealed (seals_of C.sealed C.opened self.now.site.atom self.now.keys)
+            self.now scratch.new }
+        ensures begun { IsBegun (seals_of C.sealed C.opened self.now.site.atom self.now.keys)
+            self.now scratch.new }
+        ensures scratch { IsAsLong scratch.old scratch.new }
     {
-        match disk.sync() {
+        match self.sync_beside(rt, scratch, disk) {
             Ok(()) => Made {
                 next: NextCall::Open(headers),
                 answer: Ok(Stepped::Went),
@@ -194,16 +210,31 @@ impl<C: SectorCipher + Copy + Sync> Worker<C> {
     }
 
     /// The next call of the commit that opens the zone.
-    pub(crate) fn open<D: Disk>(&self, headers: Headers, disk: &mut D) -> Made
+    pub(crate) fn open<R: Threads + Sync, D: Disk>(
+        &self,
+        rt: &R,
+        scratch: &mut Scratch,
+        headers: Headers,
+        disk: &mut D,
+    ) -> Made
         requires commit { MayCommit headers.opened (D.device disk.old) }
-        requires some { 0 < self.now.site.atom }
-        ensures { Makes (seals_of C.sealed C.opened self.now.site.atom self.now.keys)
+        requires fits { FitsDisk C.sector self.now (D.device disk.old) }
+        requires sealed { IsSealed (seals_of C.sealed C.opened self.now.site.atom self.now.keys)
+            self.now scratch.old }
+        requires begun { IsBegun (seals_of C.sealed C.opened self.now.site.atom self.now.keys)
+            self.now scratch.old }
+        ensures makes { Makes (seals_of C.sealed C.opened self.now.site.atom self.now.keys)
             (D.device disk.old) (D.device disk.new) self.now (Open headers) self.now result }
+        ensures sealed { IsSealed (seals_of C.sealed C.opened self.now.site.atom self.now.keys)
+            self.now scratch.new }
+        ensures begun { IsBegun (seals_of C.sealed C.opened self.now.site.atom self.now.keys)
+            self.now scratch.new }
+        ensures scratch { IsAsLong scratch.old scratch.new }
     {
         let Headers { opened, moved } = headers;
         let mut opened = opened;
         let stage = opened.stage();
-        match opened.step(disk) {
+        match self.step_beside(rt, scratch, &mut opened, disk) {
             Ok(last) => Made {
                 next: behind_open(&self.site, Headers { opened, moved }, last),
                 answer: Ok(Stepped::Went),

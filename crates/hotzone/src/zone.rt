@@ -44,7 +44,7 @@ impl<C: SectorCipher + Copy> Drop for Zone<C> {
 }
 
 impl<C: SectorCipher + Copy> Model for Zone<C> {
-    ghost use Rattle.hotzone.specs.Laid.{IsSealed};
+    ghost use Rattle.hotzone.specs.Laid.{IsBegun, IsSealed};
     ghost use Rattle.hotzone.specs.Workers.{HasRoom, IsWorking};
     ghost use Rattle.hotzone.specs.declared.worker.Worker.{Worker as worker_type};
     ghost use Rattle.luks_store.specs.contracts.commit.Prepared as prepared_type;
@@ -61,6 +61,8 @@ impl<C: SectorCipher + Copy> Model for Zone<C> {
     ghost invariant = { λ zone. IsWorking C.sector zone.worker
         × HasRoom zone.worker.site zone.scratch
         × IsSealed (seals_of C.sealed C.opened zone.worker.site.atom zone.worker.keys)
+        zone.worker zone.scratch
+        × IsBegun (seals_of C.sealed C.opened zone.worker.site.atom zone.worker.keys)
         zone.worker zone.scratch };
 }
 
@@ -99,11 +101,11 @@ fn new_worker<C: SectorCipher + Copy>(
 impl<C: SectorCipher + Copy> Zone<C> {
     /// A conversion that goes on behind a header by which no zone is open, guarded by a journal or by
     /// checksum. It takes the buffer of a part; by checksum also those of a part sealed anew and of
-    /// its digests. The keys fit the blocks of both sides; that they are the keys of
-    /// these segments is for the caller to know, since each step opens and seals by them. So it is
-    /// with the disk: before the first step both copies on it hold this header, each atom of theirs
-    /// for certain, and between steps nobody else writes what they write. Where there is no memory
-    /// header and keys are gone.
+    /// its digests, and by journal that of a part sealed anew where it is sealed in slices. The keys
+    /// fit the blocks of both sides; that they are the keys of these segments is for the caller to
+    /// know, since each step opens and seals by them. So it is with the disk: before the first step
+    /// both copies on it hold this header, each atom of theirs for certain, and between steps nobody
+    /// else writes what they write. Where there is no memory header and keys are gone.
     pub fn new(alloc: Global, loaded: Loaded, keys: Keys<C>) -> Result<Zone<C>, AllocError>
         requires disk { IsDisk loaded.valid.sizes.atom (all_atoms loaded.valid.sizes) }
         requires may { MayGoOn loaded }
@@ -227,7 +229,8 @@ impl<C: SectorCipher + Copy + Sync> Zone<C> {
     /// parts hold is read and saved, and synced; four calls commit the header with the zone open;
     /// its parts are written anew, and synced; and four calls commit the header with the boundary
     /// moved over it. A part of 256 KiB and more is sealed by several threads, where they can be
-    /// started.
+    /// started. By journal such a part, where it is the zone's only one, is sealed in slices beside
+    /// the three syncs before it is written.
     ///
     /// # Errors
     ///
@@ -255,7 +258,7 @@ impl<C: SectorCipher + Copy + Sync> Zone<C> {
 }
 
 impl<C: SectorCipher + Copy + Sync> Worker<C> {
-    ghost use Rattle.hotzone.specs.Laid.{IsSealed};
+    ghost use Rattle.hotzone.specs.Laid.{IsBegun, IsSealed};
     ghost use Rattle.hotzone.specs.Making.{HasStepped, IsPut, MayMake, Makes};
     ghost use Rattle.hotzone.specs.declared.worker.NextCall.TheVariants.{Begin};
 
@@ -271,6 +274,8 @@ impl<C: SectorCipher + Copy + Sync> Worker<C> {
         requires room { HasRoom self.old.site scratch.old }
         requires sealed { IsSealed
             (seals_of C.sealed C.opened self.old.site.atom self.old.keys) self.old scratch.old }
+        requires begun { IsBegun
+            (seals_of C.sealed C.opened self.old.site.atom self.old.keys) self.old scratch.old }
         requires runs { self.old.halted ≡ None }
         requires next { IsDone self.old.next → ⊥ }
         requires sizes { HasSizes self.old.loaded.valid.sizes (D.device disk.old) }
@@ -279,6 +284,8 @@ impl<C: SectorCipher + Copy + Sync> Worker<C> {
             (D.device disk.new) self.old self.new result }
         ensures room { HasRoom self.new.site scratch.new }
         ensures sealed { IsSealed
+            (seals_of C.sealed C.opened self.new.site.atom self.new.keys) self.new scratch.new }
+        ensures begun { IsBegun
             (seals_of C.sealed C.opened self.new.site.atom self.new.keys) self.new scratch.new }
     {
         self.loaded.valid().is_sound();
@@ -333,38 +340,47 @@ impl<C: SectorCipher + Copy + Sync> Worker<C> {
         requires room { HasRoom self.old.site scratch.old }
         requires sealed { IsSealed
             (seals_of C.sealed C.opened self.old.site.atom self.old.keys) self.old scratch.old }
+        requires begun { IsBegun
+            (seals_of C.sealed C.opened self.old.site.atom self.old.keys) self.old scratch.old }
         ensures makes { Makes (seals_of C.sealed C.opened self.old.site.atom self.old.keys)
             (D.device disk.old) (D.device disk.new) self.old call self.new result }
         ensures scratch { IsAsLong scratch.old scratch.new }
         ensures sealed { IsSealed
+            (seals_of C.sealed C.opened self.new.site.atom self.new.keys) self.new scratch.new }
+        ensures begun { IsBegun
             (seals_of C.sealed C.opened self.new.site.atom self.new.keys) self.new scratch.new }
     {
         match call {
             NextCall::Begin => self.begin(disk),
             NextCall::ReadFirst => {
                 scratch.is_first = false;
+                scratch.begun = false;
                 self.read_first(alloc, disk)
             }
             NextCall::SaveFirst => self.save_first(rt, alloc, scratch, disk),
             NextCall::Read { done, headers } => {
                 scratch.is_first = false;
+                scratch.begun = false;
                 self.read(alloc, done, headers, disk)
             }
             NextCall::Save { done, headers } => self.save(rt, scratch, done, headers, disk),
-            NextCall::Keep(headers) => self.keep(headers, disk),
-            NextCall::Open(headers) => self.open(headers, disk),
+            NextCall::Keep(headers) => self.keep(rt, scratch, headers, disk),
+            NextCall::Open(headers) => self.open(rt, scratch, headers, disk),
             NextCall::ReadAgain { done, headers } => {
                 scratch.is_first = false;
+                scratch.begun = false;
                 self.read_again(alloc, done, headers, disk)
             }
             NextCall::Write { done, headers } => {
                 let made = self.write(rt, scratch, done, headers, disk);
                 scratch.is_first = false;
+                scratch.begun = false;
                 made
             }
             NextCall::Settle(headers) => self.settle(headers, disk),
             NextCall::Move(headers) => {
                 scratch.is_first = false;
+                scratch.begun = false;
                 self.turn(headers, disk)
             }
             NextCall::Finish => self.finish(alloc, disk),

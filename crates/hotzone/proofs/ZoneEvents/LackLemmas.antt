@@ -1,6 +1,6 @@
 -- What a header that was loaded lacks for those to follow, by what it means.
-use Rattle.std.proofs.Common.{ℕ, ◌≡◌, ◌+◌, ◌-◌, ◌^◌, ◌<◌, ◌≤◌, refl, sym, ◌∙◌, ap, arith}
-use Rattle.luks_store.specs.Copying.Meanings.{meaning_of, seqid_in, size_in}
+use Rattle.std.proofs.Common.{ℕ, ◌≡◌, ◌+◌, ◌-◌, ◌<◌, ◌≤◌, refl, sym, ◌∙◌, ap, arith}
+use Rattle.luks_store.specs.Copying.Meanings.{meaning_of, seqid_in}
 use Rattle.luks_store.specs.Copying.Steps.{last_seqid, longest_text}
 use Rattle.luks_store.proofs.GivenLemmas.{numbered-by, sized-by}
 use Rattle.luks_store.specs.Loads.{IsStored}

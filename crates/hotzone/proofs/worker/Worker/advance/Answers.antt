@@ -4,7 +4,8 @@ use Rattle.hotzone.proofs.GuardLemmas.{room-later}
 use Rattle.hotzone.proofs.LaidLemmas.{sealed-put}
 use Rattle.hotzone.proofs.StepLemmas.{made-on, stepped-by}
 use Rattle.hotzone.proofs.WorkingLemmas.{known-atom}
-use Rattle.hotzone.specs.Laid.{IsSealed}
+use Rattle.hotzone.proofs.SliceLemmas.{begun-put}
+use Rattle.hotzone.specs.Laid.{IsBegun, IsSealed}
 use Rattle.luks_rules.specs.States.{IsSound}
 use Rattle.luks_rules.specs.declared.valid.Checked.{Checked}
 use Rattle.volume_machine.specs.Seals.{seals_of}
@@ -48,3 +49,14 @@ returns-clause-sealed g c =
     sealed-put (seals_of g.C.SectorCipher.sealed g.C.SectorCipher.opened) c.make-next.new.self _
     c.make-next.result.next c.make-next.result.answer _ c.make-next.new.scratch
     c.put_answer.ensures c.make-next.ensures.sealed
+
+pub make-next-requires-clause-begun : goal.make-next-requires-clause-begun
+make-next-requires-clause-begun g c κs lives =
+    subst (λ w. IsBegun (seals_of g.C.SectorCipher.sealed g.C.SectorCipher.opened w.site.atom w.keys)
+    w c.args.scratch.now) (sym c.take_next-call.ensures.rest) c.requires.begun
+
+pub returns-clause-begun : goal.returns-clause-begun
+returns-clause-begun g c =
+    begun-put (seals_of g.C.SectorCipher.sealed g.C.SectorCipher.opened) c.make-next.new.self _
+    c.make-next.result.next c.make-next.result.answer _ c.make-next.new.scratch
+    c.put_answer.ensures c.make-next.ensures.begun

@@ -1,4 +1,4 @@
-use Rattle.std.proofs.Common.{◌≡◌, ◌≤◌, ◌∙◌, ◌+◌, ◌*◌, ap, arith, length, sym, subst, take}
+use Rattle.std.proofs.Common.{◌≤◌, ◌∙◌, ◌+◌, ◌*◌, ap, arith, length, sym, subst, take}
 use Rattle.hotzone.proofs.CompareLemmas.{IsCompared, compared, digests-front, few-blocks}
 use Rattle.hotzone.proofs.CompareLemmas.{front-long}
 use Rattle.hotzone.proofs.CompareLemmas.{laid-none, laid-part, laid-place, laid-some, laid-within}
@@ -14,7 +14,7 @@ use Rattle.std.specs.Prelude.{MatchBool, ◌==◌}
 use Rattle.hotzone.proofs.worker.Worker.compare.Given.{Over}
 use Rattle.hotzone.proofs.worker.Worker.compare.Goals as goal
 use Rattle.hotzone.proofs.worker.Worker.compare.Goals.{After-front-digests}
-use Rattle.volume_machine.specs.Seals.{KeysFit, Seals, seals_of}
+use Rattle.volume_machine.specs.Seals.{KeysFit, seals_of}
 
 pub front-old-requires : goal.front-old-requires
 front-old-requires g c =

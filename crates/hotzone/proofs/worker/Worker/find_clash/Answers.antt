@@ -1,4 +1,5 @@
 use Rattle.std.proofs.Common.{◌+◌, sym, subst}
+use Rattle.hotzone.proofs.SliceLemmas.{begun-nowhere}
 use Rattle.hotzone.specs.Laid.{AreLaidBy}
 use Rattle.hotzone.specs.Sites.{part_at}
 use Rattle.hotzone.specs.Steps.{TellsBy, part_in, resealed}
@@ -34,3 +35,7 @@ returns-in-Checksum-clause-laid g c =
     subst (λ k. AreLaidBy k c.args.self.now.site.atom (part_at c.args.self.now.site c.args.done)
     (part_in c.args.self.now c.args.done) c.compare.new.scratch.digests) (sym c.in-Checksum.is)
     c.compare.ensures.laid
+
+pub returns-in-Checksum-clause-begun : goal.returns-in-Checksum-clause-begun
+returns-in-Checksum-clause-begun g c =
+    begun-nowhere _ c.args.self.now c.compare.new.scratch c.compare.ensures.begun

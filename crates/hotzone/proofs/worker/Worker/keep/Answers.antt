@@ -2,8 +2,8 @@ use Rattle.std.proofs.Common.{refl}
 use Rattle.hotzone.specs.Steps.{keeps, keep_fails}
 use Rattle.hotzone.proofs.worker.Worker.keep.Goals as goal
 
-pub returns-in-Ok : goal.returns-in-Ok
-returns-in-Ok g c = keeps c.args.headers refl c.in-Ok.ensures.call refl
+pub returns-in-Ok-clause-makes : goal.returns-in-Ok-clause-makes
+returns-in-Ok-clause-makes g c = keeps c.args.headers refl c.in-Ok.ensures.call refl
 
-pub returns-in-Err : goal.returns-in-Err
-returns-in-Err g c = keep_fails c.args.headers refl c.in-Err.ensures.call (record { is = refl })
+pub returns-in-Err-clause-makes : goal.returns-in-Err-clause-makes
+returns-in-Err-clause-makes g c = keep_fails c.args.headers refl c.in-Err.ensures.call (record { is = refl })

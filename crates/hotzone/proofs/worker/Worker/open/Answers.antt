@@ -6,18 +6,18 @@ use Rattle.hotzone.specs.declared.worker.Halt.TheVariants.{InCommit}
 use Rattle.hotzone.specs.declared.worker.NextCall.TheVariants.{Open}
 use Rattle.hotzone.proofs.worker.Worker.open.Goals as goal
 
-pub returns-in-Ok : goal.returns-in-Ok
-returns-in-Ok g c =
-    let commit = c.step.new.self in
-    let is = c.in-Ok.ensures in
+pub returns-in-Ok-clause-makes : goal.returns-in-Ok-clause-makes
+returns-in-Ok-clause-makes g c =
+    let commit = c.step_beside.new.commit in
+    let is = c.in-Ok.ensures.commit in
     open-goes _ _ _ c.args.self.now c.args.headers commit _ c.in-Ok.last is.call
     (committed-on c.args.headers.opened commit _ _ is.call c.requires.commit.1 is.sizes is.first
     is.second is.same is.stage) is.last c.behind_open.ensures
 
-pub returns-in-Err : goal.returns-in-Err
-returns-in-Err g c =
-    let commit = c.step.new.self in
-    let is = c.in-Err.ensures in
+pub returns-in-Err-clause-makes : goal.returns-in-Err-clause-makes
+returns-in-Err-clause-makes g c =
+    let commit = c.step_beside.new.commit in
+    let is = c.in-Err.ensures.commit in
     open_fails c.args.headers commit refl is.call
     (broken-on c.args.headers.opened commit _ _ is.call c.requires.commit.1 is.sizes is.first
     is.second is.same is.stage)

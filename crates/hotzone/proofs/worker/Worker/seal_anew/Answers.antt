@@ -1,7 +1,7 @@
-use Rattle.std.proofs.Common.{◌≡◌, ◌∙◌, ◌+◌, ◌≤◌, List, ℕ, length, take, ap, sym, subst}
+use Rattle.std.proofs.Common.{◌≡◌, ◌∙◌, ◌+◌, length, take, ap, sym, subst}
 use Rattle.base_terms.specs.Blocks.{rewritten}
 use Rattle.hotzone.proofs.PartLemmas.{all-rewritten, part-front, part-keys-by}
-use Rattle.hotzone.specs.Steps.{part_in, resealed}
+use Rattle.hotzone.specs.Steps.{resealed}
 use Rattle.volume_machine.specs.Seals.{KeysFit, seals_of}
 use Rattle.hotzone.proofs.worker.Worker.seal_anew.Given.{Over}
 use Rattle.hotzone.proofs.worker.Worker.seal_anew.Goals as goal

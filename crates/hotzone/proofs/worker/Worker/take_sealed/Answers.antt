@@ -1,4 +1,4 @@
-use Rattle.std.proofs.Common.{◌≡◌, ◌∙◌, ◌≤◌, List, ℕ, length, take, ap, sym, subst}
+use Rattle.std.proofs.Common.{◌≡◌, ◌∙◌, length, take, ap, sym}
 use Rattle.std.proofs.lemmas.List.{length-take-le}
 use Rattle.base_terms.specs.Blocks.{rewritten}
 use Rattle.hotzone.proofs.LaidLemmas.{sealed-is, sealed-long}

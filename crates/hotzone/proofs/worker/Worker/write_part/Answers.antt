@@ -1,4 +1,4 @@
-use Rattle.std.proofs.Common.{◌≡◌, ◌∙◌, ◌+◌, ◌≤◌, List, ℕ, length, take, ap, sym, subst}
+use Rattle.std.proofs.Common.{◌∙◌, ◌+◌, ◌≤◌, List, ℕ, take, ap, sym, subst}
 use Rattle.hotzone.proofs.PartLemmas.{front-inside, part-front}
 use Rattle.hotzone.specs.Sites.{bytes_at}
 use Rattle.hotzone.specs.Steps.{part_in}
