@@ -7,6 +7,7 @@ use Rattle.volume_laws.specs.BesideLanes.Lanes.{answered_at, answered_on}
 use Rattle.volume_machine.proofs.Locking.{same_or_not}
 use Rattle.volume_machine.specs.Answers.{Answered, AreTagged, Tagged, of_session}
 use Rattle.volume_machine.specs.Deeds.{Act, Deed, answered_of, answered_over, client, plain_by, worker}
+use Rattle.volume_machine.specs.Edges.{InPlain}
 use Rattle.volume_machine.specs.Events.{Event, Outcome, lane_of}
 use Rattle.volume_machine.specs.Runs.{answered_by, plain_after}
 use Rattle.volume_machine.specs.Seals.{Seals}
@@ -116,7 +117,7 @@ AreOn lane [] = Unit {0}
 AreOn lane (one ∷ rest) = IsOnLane lane one.act × AreOn lane rest
 
 -- One history of deeds whose answers are tagged lane by lane. That of one lane alone is the lane's.
-pub record Merged {K : Type 0} (seals : Seals) (old : State K) (plain : ℕ → List ℕ)
+pub record Merged {K : Type 0} (seals : Seals) (old : State K) (plain : ℕ → InPlain)
     (lanes : ℕ) (each : ℕ → List Tagged) (deeds : List (Deed K)) : Type 0 where
   pub history : List Tagged
   pub answered : AreTagged (answered_over seals old plain deeds) history
@@ -124,7 +125,7 @@ pub record Merged {K : Type 0} (seals : Seals) (old : State K) (plain : ℕ → 
   pub alone : (lane : ℕ) → AreOn lane deeds → history ≡ each lane
 
 -- the same of one deed and those behind it
-record MergedWith {K : Type 0} (seals : Seals) (old : State K) (plain : ℕ → List ℕ)
+record MergedWith {K : Type 0} (seals : Seals) (old : State K) (plain : ℕ → InPlain)
     (lanes : ℕ) (each : ℕ → List Tagged) (act : Act) (after : State K)
     (rest : List (Deed K)) : Type 0 where
   history : List Tagged
@@ -133,7 +134,7 @@ record MergedWith {K : Type 0} (seals : Seals) (old : State K) (plain : ℕ → 
   merged : IsMergedFrom lanes each history
   alone : (lane : ℕ) → IsOnLane lane act → AreOn lane rest → history ≡ each lane
 
-module _ {K : Type 0} (seals : Seals) (old : State K) (plain : ℕ → List ℕ) (lanes : ℕ)
+module _ {K : Type 0} (seals : Seals) (old : State K) (plain : ℕ → InPlain) (lanes : ℕ)
     (each : ℕ → List Tagged) (after : State K) (rest : List (Deed K))
     (own : (k : ℕ) → AreOfLane lanes k (each k)) where
   -- an event of a client, whose lane has the first answers of the list of its own
@@ -215,7 +216,7 @@ module _ {K : Type 0} (seals : Seals) (old : State K) (plain : ℕ → List ℕ)
     alone = λ lane here on. behind.alone lane on;
   }
 
-pub merges : {K : Type 0} (seals : Seals) (old : State K) (plain : ℕ → List ℕ) (lanes : ℕ)
+pub merges : {K : Type 0} (seals : Seals) (old : State K) (plain : ℕ → InPlain) (lanes : ℕ)
     (each : ℕ → List Tagged) (deeds : List (Deed K))
     → ((k : ℕ) → AreTagged (answered_on k seals old plain deeds) (each k))
     → ((k : ℕ) → AreOfLane lanes k (each k)) → Merged seals old plain lanes each deeds

@@ -15,31 +15,33 @@ use Rattle.volume_machine.specs.Alone.{open_after}
 use Rattle.volume_machine.specs.Answers.{answers}
 use Rattle.volume_machine.specs.Deeds.{Act, AreDeeds, Deed, Does, answered_of, answered_over}
 use Rattle.volume_machine.specs.Deeds.{client, plain_by, worker}
-use Rattle.volume_machine.specs.Events.{Event, Outcome, admits, asks, reads, writes, settles, finishes}
-use Rattle.volume_machine.specs.Events.{lane_of, got, done, device}
+use Rattle.volume_machine.specs.Edges.{InPlain, nothing, with_bytes, with_edge}
+use Rattle.volume_machine.specs.Events.{Event, Outcome, admits, asks, reads, fetches, writes, settles}
+use Rattle.volume_machine.specs.Events.{finishes, lane_of, got, done, device}
 use Rattle.volume_machine.specs.Readings.{Reading}
-use Rattle.volume_machine.specs.Runs.{answered_by, no_plain, plain_after, plain_piece}
+use Rattle.volume_machine.specs.Runs.{answered_by, no_plain, plain_after, plain_edge, plain_piece}
 use Rattle.volume_machine.specs.Seals.{Seals}
 use Rattle.volume_machine.specs.States.{IsClient, IsIdle, State, open_at}
 use Rattle.volume_machine.specs.Steps.{Step}
 use Rattle.volume_machine.specs.declared.open.Open.{Open}
 
--- plain bytes agree where a lane of clients has an operation under way
-abbrev Agree : {K : Type 0} → State K → (ℕ → List ℕ) → (ℕ → List ℕ) → Type 0
+-- what lanes have in plain agrees where a lane of clients has an operation under way
+abbrev Agree : {K : Type 0} → State K → (ℕ → InPlain) → (ℕ → InPlain) → Type 0
 Agree state p q = (lane : ℕ) (o : Open) → IsClient state lane → open_at state.lanes lane ≡ Some o
     → p lane ≡ q lane
 
 -- an event of a lane that has none answers the same whatever it had
-none-answers : (event : Event) (outcome : Outcome) (p q : List ℕ)
-    → answers event outcome None p ≡ answers event outcome None q
-none-answers (admits lane session ask) outcome p q = refl
-none-answers (asks lane) outcome p q = refl
-none-answers (reads lane len) outcome p q = refl
-none-answers (writes lane sealed) outcome p q = refl
-none-answers (settles lane) outcome p q = refl
-none-answers (finishes lane) outcome p q = refl
+none-answers : (atom : ℕ) (event : Event) (outcome : Outcome) (p q : InPlain)
+    → answers atom event outcome None p ≡ answers atom event outcome None q
+none-answers atom (admits lane session ask) outcome p q = refl
+none-answers atom (asks lane) outcome p q = refl
+none-answers atom (reads lane len) outcome p q = refl
+none-answers atom (fetches lane which) outcome p q = refl
+none-answers atom (writes lane sealed) outcome p q = refl
+none-answers atom (settles lane) outcome p q = refl
+none-answers atom (finishes lane) outcome p q = refl
 
-module _ {K : Type 0} (seals : Seals) (old : State K) (p q : ℕ → List ℕ) (agree : Agree old p q)
+module _ {K : Type 0} (seals : Seals) (old : State K) (p q : ℕ → InPlain) (agree : Agree old p q)
   where
     same-answers : (event : Event) (outcome : Outcome) → IsClient old (lane_of event)
         → answered_by old event outcome p ≡ answered_by old event outcome q
@@ -47,10 +49,14 @@ module _ {K : Type 0} (seals : Seals) (old : State K) (p q : ℕ → List ℕ) (
     same-answers event outcome client_is = by (open_at old.lanes (lane_of event)) refl
       where
         by : (was : Option Open) → open_at old.lanes (lane_of event) ≡ was
-            → answers event outcome (open_at old.lanes (lane_of event)) (p (lane_of event))
-            ≡ answers event outcome (open_at old.lanes (lane_of event)) (q (lane_of event))
-        by None at = rw at (none-answers event outcome (p (lane_of event)) (q (lane_of event)))
-        by (Some o) at = ap (λ x. answers event outcome (open_at old.lanes (lane_of event)) x)
+            → answers old.map.atom event outcome (open_at old.lanes (lane_of event))
+            (p (lane_of event))
+            ≡ answers old.map.atom event outcome (open_at old.lanes (lane_of event))
+            (q (lane_of event))
+        by None at =
+            rw at (none-answers old.map.atom event outcome (p (lane_of event)) (q (lane_of event)))
+        by (Some o) at = ap
+            (λ x. answers old.map.atom event outcome (open_at old.lanes (lane_of event)) x)
             (agree (lane_of event) o client_is at)
 
     own-agrees : (event : Event) (outcome : Outcome) (was : Option Open) (o : Open)
@@ -60,24 +66,30 @@ module _ {K : Type 0} (seals : Seals) (old : State K) (p q : ℕ → List ℕ) (
         ≡ plain_after seals old event outcome q (lane_of event)
     unfolding plain_after
     own-agrees (admits lane session ask) outcome was o client_is at now =
-        plain-own p lane [] ∙ sym (plain-own q lane [])
+        plain-own p lane nothing ∙ sym (plain-own q lane nothing)
     own-agrees (asks lane) outcome None o client_is at now = absurd (cc)
     own-agrees (asks lane) outcome (Some x) o client_is at now = agree lane x client_is at
     own-agrees (reads lane len) outcome None o client_is at now = absurd (cc)
     own-agrees (reads lane len) (got sealed) (Some x) o client_is at now =
-        plain-own p lane (p lane ++ plain_piece seals old lane sealed)
-        ∙ (ap (λ xs. xs ++ plain_piece seals old lane sealed) (agree lane x client_is at)
-        ∙ sym (plain-own q lane (q lane ++ plain_piece seals old lane sealed)))
+        plain-own p lane (with_bytes (p lane) (plain_piece seals old lane sealed))
+        ∙ (ap (λ had. with_bytes had (plain_piece seals old lane sealed)) (agree lane x client_is at)
+        ∙ sym (plain-own q lane (with_bytes (q lane) (plain_piece seals old lane sealed))))
     own-agrees (reads lane len) _ (Some x) o client_is at now = agree lane x client_is at
+    own-agrees (fetches lane which) outcome None o client_is at now = absurd (cc)
+    own-agrees (fetches lane which) (got sealed) (Some x) o client_is at now =
+        plain-own p lane (with_edge (p lane) (plain_edge seals old lane which sealed))
+        ∙ (ap (λ had. with_edge had (plain_edge seals old lane which sealed)) (agree lane x client_is at)
+        ∙ sym (plain-own q lane (with_edge (q lane) (plain_edge seals old lane which sealed))))
+    own-agrees (fetches lane which) _ (Some x) o client_is at now = agree lane x client_is at
     own-agrees (writes lane sealed) outcome None o client_is at now = absurd (cc)
     own-agrees (writes lane sealed) done (Some x) o client_is at now =
-        plain-own p lane (p lane ++ plain_piece seals old lane sealed)
-        ∙ (ap (λ xs. xs ++ plain_piece seals old lane sealed) (agree lane x client_is at)
-        ∙ sym (plain-own q lane (q lane ++ plain_piece seals old lane sealed)))
+        plain-own p lane (with_bytes (p lane) (plain_piece seals old lane sealed))
+        ∙ (ap (λ had. with_bytes had (plain_piece seals old lane sealed)) (agree lane x client_is at)
+        ∙ sym (plain-own q lane (with_bytes (q lane) (plain_piece seals old lane sealed))))
     own-agrees (writes lane sealed) device (Some x) o client_is at now =
-        plain-own p lane (p lane ++ plain_piece seals old lane sealed)
-        ∙ (ap (λ xs. xs ++ plain_piece seals old lane sealed) (agree lane x client_is at)
-        ∙ sym (plain-own q lane (q lane ++ plain_piece seals old lane sealed)))
+        plain-own p lane (with_bytes (p lane) (plain_piece seals old lane sealed))
+        ∙ (ap (λ had. with_bytes had (plain_piece seals old lane sealed)) (agree lane x client_is at)
+        ∙ sym (plain-own q lane (with_bytes (q lane) (plain_piece seals old lane sealed))))
     own-agrees (writes lane sealed) _ (Some x) o client_is at now = agree lane x client_is at
     own-agrees (settles lane) outcome None o client_is at now = absurd (cc)
     own-agrees (settles lane) outcome (Some x) o client_is at now = agree lane x client_is at
@@ -109,13 +121,13 @@ module _ {K : Type 0} (seals : Seals) (old : State K) (p q : ℕ → List ℕ) (
 
 -- what a deed leaves
 record Kept {K : Type 0} (reading : Reading) (seals : Seals) (old : State K) (act : Act)
-    (new : State K) (p q : ℕ → List ℕ) : Type 0 where
+    (new : State K) (p q : ℕ → InPlain) : Type 0 where
   kept : IsKept reading new
   agree : Agree new (plain_by seals old act p) (plain_by seals old act q)
   same : answered_of old act p ≡ answered_of old act q
 
 deed-kept : {K : Type 0} (reading : Reading) (seals : Seals) (old : State K) (act : Act)
-    (new : State K) (p q : ℕ → List ℕ) → Agree old p q → IsKept reading old
+    (new : State K) (p q : ℕ → InPlain) → Agree old p q → IsKept reading old
     → Does reading seals old act new → Kept reading seals old act new p q
 deed-kept reading seals old (client event outcome) new p q agree kept (meets, step) =
     let goes = event_effects old new event outcome step in record {
@@ -137,7 +149,7 @@ deed-kept reading seals old (worker worked) new p q agree kept step =
       same = refl;
     }
 
-same-answered : {K : Type 0} (reading : Reading) (seals : Seals) (old : State K) (p q : ℕ → List ℕ)
+same-answered : {K : Type 0} (reading : Reading) (seals : Seals) (old : State K) (p q : ℕ → InPlain)
     (deeds : List (Deed K)) → Agree old p q → IsKept reading old → AreDeeds reading seals old deeds
     → answered_over seals old p deeds ≡ answered_over seals old q deeds
 unfolding answered_over AreDeeds
@@ -151,7 +163,7 @@ same-answered reading seals old p q (one ∷ rest) agree kept (does, are) =
 
 -- deeds from a volume on which nothing is under way
 pub idle-answered : {K : Type 0} (reading : Reading) (seals : Seals) (start : State K)
-    (plain : ℕ → List ℕ) (deeds : List (Deed K)) → IsIdle start → IsKept reading start
+    (plain : ℕ → InPlain) (deeds : List (Deed K)) → IsIdle start → IsKept reading start
     → AreDeeds reading seals start deeds
     → answered_over seals start plain deeds ≡ answered_over seals start no_plain deeds
 idle-answered reading seals start plain deeds idle kept are =

@@ -41,6 +41,7 @@ use Rattle.volume_cell.specs.contracts.rule.OneHistory as OneHistory
 use Rattle.volume_cell.specs.contracts.knowledge.Knowledge as Knowledge
 use Rattle.volume_core.specs.contracts.volume.Volume as Volume
 use Rattle.volume_machine.proofs.keys.Keys.TheSendSync as keys
+use Rattle.volume_machine.proofs.sealers.Sealers.TheSendSync as sealers
 
 -- the program's cipher
 abbrev Cipher : RattleType
@@ -110,7 +111,7 @@ cell_sync D h d = recorded_sync (SharedCell.the_field D h).row _ _ (SharedCell.t
                 alloc.ghosts (held_send D h d) heap.the_send heap.the_sync frees.the_frees,
             (plain_sync _ _ _ _ _, tt),
           ),
-      (departures.the_field_sync, tt),
+      (departures.the_field_sync, (sealers.the_field_sync, tt)),
     ))
 
 -- a closure over these captures may be lent to other threads, where each of them may

@@ -83,7 +83,7 @@ module _ (seed first end m : ℕ) (most : end ≤ m) (old new : List Block) (eve
 
       pub first_even : AreBlocks m new
       first_even = step_even seed first end m old new one.op one.reply one.tried first_proper
-          first_served first_own even
+          first_served first_own even most
 
       pub first_reply : one.reply ≡ demo_reply seed one.op
       first_reply = step_reply seed first end m old new one.op one.reply one.tried first_proper
@@ -97,8 +97,8 @@ module _ (seed first end m : ℕ) (most : end ≤ m) (old new : List Block) (eve
         served = owes.served.1;
         ahead = λ b least below.
             ap (λ (v : List ℕ). held_behind b (ops_of rest) v)
-            (step_held seed first end b old new one.op one.reply one.tried first_proper first_served
-            first_own (inside b below))
+            (step_held seed first end b m old new one.op one.reply one.tried first_proper first_served
+            first_own (inside b below) even)
             ∙ held_first b least below;
       }
 
@@ -115,8 +115,8 @@ module _ (seed first end m : ℕ) (most : end ≤ m) (old new : List Block) (eve
       ahead = λ b least below.
           let value = get_or (newest_of old) b [] in
           ap (λ (v : List ℕ). held_behind b (ops_of rest) v)
-          (step_held seed first' end' b old new one.op one.reply one.tried
-          (proper_step old new one step served) served own (inside b below)
+          (step_held seed first' end' b m old new one.op one.reply one.tried
+          (proper_step old new one step served) served own (inside b below) even
           ∙ held_apart seed first' end' b one.op value own (apart b least below))
           ∙ owes.ahead b least below;
     }

@@ -1,5 +1,5 @@
 -- What a client's operation that was served does to the blocks of a plain disk.
-use Rattle.std.proofs.Common.{◌≡◌, ◌≢◌, inl, inr, ℕ, zero, suc, ◌*◌, ◌/◌, ◌<◌, ◌≤◌, arith}
+use Rattle.std.proofs.Common.{◌≡◌, ◌≢◌, inl, inr, ℕ, zero, suc, ◌*◌, ◌/◌, ◌%◌, ◌<◌, ◌≤◌, arith}
 use Rattle.std.proofs.Common.{◌==◌, if◌then◌else◌, Bool, List, [], ◌∷◌, length, map, take, drop}
 use Rattle.std.proofs.Common.{get_or, replicate, Option, Some, None, MatchOption, refl, sym, ◌∙◌, ap}
 use Rattle.std.proofs.Common.{ap₂, subst, take_all, mul_comm, lit<}
@@ -8,15 +8,17 @@ use Rattle.std.proofs.lemmas.Bool.{cases_eq}
 use Rattle.std.proofs.lemmas.List.{length-map, length-replicate}
 use Rattle.base_terms.specs.Blocks.{blocks_of, changed, joined, lengths}
 use Rattle.base_terms.proofs.BlockLemmas.{block_at, blocks_of-joined, changed-nil, even_changed}
-use Rattle.base_terms.proofs.BlockLemmas.{held_changed}
+use Rattle.base_terms.proofs.BlockLemmas.{held_changed, length-joined}
 use Rattle.plain_disk.specs.declared.operation.Op.{Op}
 use Rattle.plain_disk.specs.declared.operation.Op.TheVariants.{Read, Write, Zeroes, Flush}
 use Rattle.plain_disk.specs.declared.operation.Reply.{Reply}
 use Rattle.plain_disk.specs.declared.operation.Reply.TheVariants.{Content, Done, Errno, ErrnoAt}
-use Rattle.plain_disk.specs.Operations.{wrong_of}
+use Rattle.plain_disk.specs.Operations.{touched, wrong_of}
 use Rattle.plain_disk.specs.Outcomes.{IsServed}
-use Rattle.plain_disk.specs.Plain.{Block, Exchange, ProperStep, Step, WriteStep, newest_bytes}
+use Rattle.plain_disk.specs.Plain.{Block, Exchange, ProperStep, Step, WriteStep, edged, newest_bytes}
 use Rattle.plain_disk.proofs.BlockLemmas.{change, change_newest, newest-flushed}
+use Rattle.plain_disk.proofs.EdgeLemmas.{edged_whole}
+use Rattle.plain_disk.proofs.RangeLemmas.{touched_whole}
 use Rattle.demo_clients.specs.Contents.{demo_block}
 use Rattle.demo_clients.specs.Histories.{demo_reply}
 use Rattle.demo_clients.proofs.HeldLemmas.{IsOwn, held_after, held_here, held_there}
@@ -83,24 +85,44 @@ put_there (x ∷ xs) (suc k) (suc b) value differ =
 pub at_block : (b : ℕ) → 512 * b / 512 ≡ b
 at_block b = mul-div_cancel_left b (lit< tt)
 
-one_block : (body : List ℕ) → length body ≡ 512
-    → blocks_of 512 (length body / 512) body ≡ body ∷ []
-unfolding blocks_of
-one_block body size =
-    ap (λ n. blocks_of 512 (n / 512) body) size
-    ∙ ap (λ block. block ∷ []) (take_all 512 body (omega (arith, size)))
-
 module _ (old new : List Block) (offset : ℕ) (body : List ℕ) (fua : Bool) (k : ℕ)
     (place : offset ≡ 512 * k) (size : length body ≡ 512)
     (is : new ≡ changed (change fua) old (offset / 512)
-    (blocks_of 512 (length body / 512) body)) where
-  written_values : newest_of new ≡ changed (λ _ v. v) (newest_of old) k (body ∷ [])
-  written_values =
-      ap (λ blocks. newest_of blocks) is
-      ∙ held_changed (λ block. block.newest) (change fua) (change_newest fua) old (offset / 512)
-      (blocks_of 512 (length body / 512) body)
-      ∙ ap₂ (λ at values. changed (λ _ v. v) (newest_of old) at values)
-      (ap (λ n. n / 512) place ∙ at_block k) (one_block body size)
+    (blocks_of 512 (touched 512 offset (length body))
+    (edged 512 (newest_bytes old) offset body)))
+    (m : ℕ) (even : AreBlocks m old) where
+  abbrev text : List ℕ
+  text = edged 512 (newest_bytes old) offset body
+
+  starts : offset % 512 ≡ 0
+  starts = rw place (omega arith)
+
+  whole : length body % 512 ≡ 0
+  whole = rw size refl
+
+  one_block : touched 512 offset (length body) ≡ 1
+  one_block = touched_whole 512 offset (length body) (lit< tt) starts whole ∙ rw size refl
+
+  placed : new ≡ changed (change fua) old k (blocks_of 512 1 text)
+  placed = is ∙ ap₂ (λ at n. changed (change fua) old at (blocks_of 512 n text))
+      (ap (λ n. n / 512) place ∙ at_block k) one_block
+
+  written_values : newest_of new ≡ changed (λ _ v. v) (newest_of old) k (take 512 text ∷ [])
+  unfolding blocks_of
+  written_values = ap (λ blocks. newest_of blocks) placed
+      ∙ held_changed (λ block. block.newest) (change fua) (change_newest fua) old k
+      (take 512 text ∷ [])
+
+  -- where it lies in the disk, its block becomes the body
+  becomes : k < m → text ≡ body
+  unfolding newest_bytes
+  becomes below =
+      let long = length-joined 512 m (newest_of old) even in
+      edged_whole 512 offset (newest_bytes old) body (lit< tt) starts whole
+      (omega (arith, place, size, below, long))
+
+  value_is : k < m → take 512 text ≡ body
+  value_is below = ap (λ xs. take 512 xs) (becomes below) ∙ take_all 512 body (omega (arith, size))
 
   pub written_held : (b : ℕ) → b < length (newest_of old)
       → get_or (newest_of new) b []
@@ -112,86 +134,86 @@ module _ (old new : List Block) (offset : ℕ) (body : List ℕ) (fua : Bool) (k
       elim (cases_eq k b) [
         | inl same ↦
             here
-            ∙ subst (λ (j : ℕ). get_or (changed (λ _ v. v) values k (body ∷ [])) j [] ≡ body) same
-            (put_here values k body (subst (λ (j : ℕ). j < length values) (sym same) inside))
+            ∙ subst
+            (λ (j : ℕ). get_or (changed (λ _ v. v) values k (take 512 text ∷ [])) j [] ≡ body)
+            same
+            (let below : k < length values =
+            subst (λ (j : ℕ). j < length values) (sym same) inside in
+            put_here values k (take 512 text) below
+            ∙ value_is (omega (arith, below, count_of m old even)))
             ∙ sym (at ∙ held_here k b body (get_or values b []) same)
         | inr differ ↦
-            here ∙ put_there values k b body differ
+            here ∙ put_there values k b (take 512 text) differ
             ∙ sym (at ∙ held_there k b body (get_or values b []) differ)
       ]
 
-  pub written_even : (m : ℕ) → AreBlocks m old → AreBlocks m new
-  written_even m even =
-      subst (λ blocks. AreBlocks m blocks) (sym is)
-      (even_changed (λ block. block.newest) (change fua) (change_newest fua) m 512 (offset / 512)
-      (length body / 512) old body even
-      (let e : length body ≡ length body / 512 * 512 =
-      size ∙ sym (ap (λ n. n / 512 * 512) size) in e))
+  pub written_even : k < m → AreBlocks m new
+  written_even below = subst (λ blocks. AreBlocks m blocks)
+      (sym (placed
+      ∙ ap (λ xs. changed (change fua) old k (blocks_of 512 1 xs)) (becomes below)))
+      (even_changed (λ block. block.newest) (change fua) (change_newest fua) m 512 k 1 old body even
+      (omega (arith, size)))
 
 -- ---- each operation of a client
 size_of_own : (seed b : ℕ) (body : List ℕ) → body ≡ demo_block seed b → length body ≡ 512
 size_of_own seed b body is = ap (λ xs. length xs) is ∙ block-length seed b
 
-pub step_held : (seed first end b : ℕ) (old new : List Block) (op : Op) (reply : Reply) (n : ℕ)
+pub step_held : (seed first end b m : ℕ) (old new : List Block) (op : Op) (reply : Reply) (n : ℕ)
     → ProperStep 512 old op reply n new → IsServed op reply → IsOwn seed first end op
-    → b < length (newest_of old)
+    → b < length (newest_of old) → AreBlocks m old
     → get_or (newest_of new) b [] ≡ held_after b op (get_or (newest_of old) b [])
 unfolding ProperStep WriteStep
-step_held seed first end b old new (Read offset len) (Content bytes) n step served own inside =
+step_held seed first end b m old new (Read offset len) (Content bytes) n step served own inside even =
     ap (λ blocks. get_or (newest_of blocks) b []) step.0
-step_held seed first end b old new (Read offset len) Done n step served own inside = absurd served
-step_held seed first end b old new (Read offset len) (Errno e) n step served own inside =
+step_held seed first end b m old new (Read offset len) Done n step served own inside even = absurd served
+step_held seed first end b m old new (Read offset len) (Errno e) n step served own inside even =
     absurd served
-step_held seed first end b old new (Read offset len) (ErrnoAt e at) n step served own inside =
+step_held seed first end b m old new (Read offset len) (ErrnoAt e at) n step served own inside even =
     absurd served
-step_held seed first end b old new (Write offset body fua) (Content bytes) n step served own
-    inside = absurd step
-step_held seed first end b old new (Write offset body fua) Done n step served own inside =
+step_held seed first end b m old new (Write offset body fua) (Content bytes) n step served own
+    inside even = absurd step
+step_held seed first end b m old new (Write offset body fua) Done n step served own inside even =
     written_held old new offset body fua own.0 own.3 (size_of_own seed own.0 body own.4)
-    (step.1 ∙ ap (λ k. changed (change fua) old (offset / 512) (blocks_of 512 (k / 512) body))
-    step.0)
-    b inside
-step_held seed first end b old new (Write offset body fua) (Errno e) n step served own inside =
+    step.1 m even b inside
+step_held seed first end b m old new (Write offset body fua) (Errno e) n step served own inside even =
     absurd (cc)
-step_held seed first end b old new (Write offset body fua) (ErrnoAt e at) n step served own
-    inside = absurd step
-step_held seed first end b old new (Zeroes offset len fua) reply n step served own inside =
+step_held seed first end b m old new (Write offset body fua) (ErrnoAt e at) n step served own
+    inside even = absurd step
+step_held seed first end b m old new (Zeroes offset len fua) reply n step served own inside even =
     absurd own
-step_held seed first end b old new Flush (Content bytes) n step served own inside = absurd step
-step_held seed first end b old new Flush Done n step served own inside =
+step_held seed first end b m old new Flush (Content bytes) n step served own inside even = absurd step
+step_held seed first end b m old new Flush Done n step served own inside even =
     ap (λ values. get_or values b []) (ap (λ blocks. newest_of blocks) step ∙ newest-flushed old)
-step_held seed first end b old new Flush (Errno e) n step served own inside = absurd (cc)
-step_held seed first end b old new Flush (ErrnoAt e at) n step served own inside = absurd step
+step_held seed first end b m old new Flush (Errno e) n step served own inside even = absurd (cc)
+step_held seed first end b m old new Flush (ErrnoAt e at) n step served own inside even = absurd step
 
 pub step_even : (seed first end m : ℕ) (old new : List Block) (op : Op) (reply : Reply) (n : ℕ)
     → ProperStep 512 old op reply n new → IsServed op reply → IsOwn seed first end op
-    → AreBlocks m old → AreBlocks m new
+    → AreBlocks m old → end ≤ m → AreBlocks m new
 unfolding ProperStep WriteStep
-step_even seed first end m old new (Read offset len) (Content bytes) n step served own even =
+step_even seed first end m old new (Read offset len) (Content bytes) n step served own even most =
     subst (λ blocks. AreBlocks m blocks) (sym step.0) even
-step_even seed first end m old new (Read offset len) Done n step served own even = absurd served
-step_even seed first end m old new (Read offset len) (Errno e) n step served own even =
+step_even seed first end m old new (Read offset len) Done n step served own even most = absurd served
+step_even seed first end m old new (Read offset len) (Errno e) n step served own even most =
     absurd served
-step_even seed first end m old new (Read offset len) (ErrnoAt e at) n step served own even =
+step_even seed first end m old new (Read offset len) (ErrnoAt e at) n step served own even most =
     absurd served
-step_even seed first end m old new (Write offset body fua) (Content bytes) n step served own even =
+step_even seed first end m old new (Write offset body fua) (Content bytes) n step served own even most =
     absurd step
-step_even seed first end m old new (Write offset body fua) Done n step served own even =
+step_even seed first end m old new (Write offset body fua) Done n step served own even most =
     written_even old new offset body fua own.0 own.3 (size_of_own seed own.0 body own.4)
-    (step.1 ∙ ap (λ k. changed (change fua) old (offset / 512) (blocks_of 512 (k / 512) body))
-    step.0)
-    m even
-step_even seed first end m old new (Write offset body fua) (Errno e) n step served own even =
+    step.1 m even (omega (arith, own.2, most))
+step_even seed first end m old new (Write offset body fua) (Errno e) n step served own even most =
     absurd (cc)
-step_even seed first end m old new (Write offset body fua) (ErrnoAt e at) n step served own even =
+step_even seed first end m old new (Write offset body fua) (ErrnoAt e at) n step served own even most =
     absurd step
-step_even seed first end m old new (Zeroes offset len fua) reply n step served own even =
+step_even seed first end m old new (Zeroes offset len fua) reply n step served own even most =
     absurd own
-step_even seed first end m old new Flush (Content bytes) n step served own even = absurd step
-step_even seed first end m old new Flush Done n step served own even =
+step_even seed first end m old new Flush (Content bytes) n step served own even most = absurd step
+step_even seed first end m old new Flush Done n step served own even most =
     ap (λ values. lengths values) (ap (λ blocks. newest_of blocks) step ∙ newest-flushed old) ∙ even
-step_even seed first end m old new Flush (Errno e) n step served own even = absurd (cc)
-step_even seed first end m old new Flush (ErrnoAt e at) n step served own even = absurd step
+step_even seed first end m old new Flush (Errno e) n step served own even most = absurd (cc)
+step_even seed first end m old new Flush (ErrnoAt e at) n step served own even most = absurd step
 
 -- ---- what a read is answered
 read_value : (m b : ℕ) (blocks : List Block) → AreBlocks m blocks → b < m

@@ -1,3 +1,4 @@
+pub mod PlanAligned
 pub mod PlanBegins
 pub mod PlanCourse
 pub mod PlanEnds

@@ -5,22 +5,27 @@ use Rattle.std.proofs.Math.Nat.{le-max_right}
 use Rattle.std.proofs.lemmas.List.{take-take}
 use Rattle.plain_disk.specs.declared.operation.Op.{Op}
 use Rattle.segment_map.specs.declared.map.Map.{Map}
-use Rattle.volume_machine.specs.Alone.{Alone, alone_after, answered_alone, MeetsAlone}
+use Rattle.sector_disk.specs.Geometry.{IsAtom}
+use Rattle.volume_machine.specs.Alone.{Alone, alone_after, answered_alone, in_plain, opened_by}
+use Rattle.volume_machine.specs.Alone.{MayWrite, MeetsAlone}
 use Rattle.volume_machine.specs.Answers.{Answered}
 use Rattle.volume_machine.specs.Asks.{range_of, wrong_ask}
+use Rattle.volume_machine.specs.Edges.{with_bytes}
 use Rattle.volume_machine.specs.Seals.{Seals}
 use Rattle.volume_machine.specs.States.{begun}
 use Rattle.volume_machine.specs.Steps.{CanRead, CanWrite}
 use Rattle.volume_machine.specs.declared.{ask.Ask.Ask, grant.Grant.Grant, open.Open.Open}
 use Rattle.volume_machine.proofs.Soundness.{ordered, proper-inside}
 use Rattle.lane_plan.specs.Calls.{ask_of, event_of, outcome_of}
-use Rattle.lane_plan.specs.Plans.{Awaits, Follows, Goes, HasRest, IsBack, IsGrantFor, IsShape}
+use Rattle.lane_plan.specs.Plans.{Awaits, Follows, Goes, HasRest, IsAligned, IsBack, IsGrantFor}
+use Rattle.lane_plan.specs.Plans.{IsShape}
 use Rattle.lane_plan.specs.Plans.{IsSupplied, IsTold, MayAnswer, asks, begins, buffered, calls_left}
 use Rattle.lane_plan.specs.Plans.{finishes, first_call, is_zeroes, left_at, part_of, reads}
 use Rattle.lane_plan.specs.Plans.{refuses, settles, shape_of, writes}
 use Rattle.lane_plan.specs.declared.plan.Stage.TheVariants.{Beginning, Refusing, Waiting}
 use Rattle.lane_plan.specs.declared.{calls.Answer.Answer, calls.Call.Call, plan.Plan.Plan}
 use Rattle.lane_plan.specs.declared.{plan.Shape.Shape}
+use Rattle.lane_plan.proofs.PlanAligned.{aligned_ask, keeps_aligned, no_edges}
 use Rattle.lane_plan.proofs.PlanCourse.{none-yet, some-left}
 use Rattle.lane_plan.proofs.PlanSizes.{body-long, size-none, some-atom}
 use Rattle.plain_disk.specs.declared.operation.Op.TheVariants as Ops
@@ -30,7 +35,7 @@ use Rattle.lane_plan.specs.declared.calls.Next.TheVariants as Nexts
 
 -- the call that a plan awaits the answer to met its conditions
 awaits-meets : (seals : Seals) (plan : Plan) (op : Op) (alone : Alone) (call : Call) →
-    Awaits seals plan op alone call → (lane : ℕ) → MeetsAlone alone (event_of lane call)
+    Awaits seals plan op alone call → (lane : ℕ) → MeetsAlone seals alone (event_of lane call)
 unfolding MeetsAlone
 awaits-meets seals plan op alone _ (refuses stage asked none) lane = none
 awaits-meets seals plan op alone _ (begins stage supplied none) lane = none
@@ -45,14 +50,25 @@ awaits-meets seals plan op alone _ (reads map piece buffer len moves reading siz
     } in
     (plan.operation, moves.course.operation, (map, moves.course.granted, can))
 awaits-meets seals plan op alone _ (writes map piece prepared moves writing is_sealed) lane =
+    let course = moves.course in
+    let known : IsAtom map.atom = rw course.atom course.known.known in
+    let is : IsAligned map.atom plan.operation.ask = rw course.atom (aligned_ask plan.shape.atom
+    (plan.shape.blocks * plan.shape.atom) plan.operation.ask course.proper) in
     let can : CanWrite map prepared.bytes plan.operation = record {
       writes = writing;
+      edges = course.fetched
+          ∙ sym (ap (λ xs. length xs) (no_edges map.atom plan.operation.ask known is));
       has = record { some = some-left plan.operation moves.next; goes_on = moves.course.unfailed };
       piece = piece;
       next = moves.next;
       are = record { size = rw moves.course.atom is_sealed.size; are_bytes = is_sealed.are_bytes };
     } in
-    (plan.operation, moves.course.operation, (map, moves.course.granted, can))
+    let may : MayWrite seals alone map prepared.bytes plan.operation = record {
+      can = can;
+      keeps = keeps_aligned map.atom plan.operation.ask (with_bytes (in_plain alone)
+          (opened_by seals map (Some plan.operation) prepared.bytes)) known is;
+    } in
+    (plan.operation, moves.course.operation, (map, moves.course.granted, may))
 awaits-meets seals plan op alone _ (settles map stage course plain can ends) lane =
     (plan.operation, course.operation, can)
 awaits-meets seals plan op alone _ (finishes stage ending) lane =
@@ -69,7 +85,7 @@ follows-call {seals} {plan} {op} {alone} {call} answered none awaits =
 abbrev pub IsBackBy : Seals → Plan → Answer → Plan → Map → Type 0
 IsBackBy seals old answer mid map = (op : Op) (alone : Alone) (call : Call) (lane : ℕ)
     → Awaits seals old op alone call → MayAnswer old call answer
-    → (answered_alone alone (event_of lane call) (outcome_of answer) ≡ []) × IsBack
+    → (answered_alone old.shape.atom alone (event_of lane call) (outcome_of answer) ≡ []) × IsBack
     mid op (alone_after old.shape.atom seals alone (event_of lane call) (outcome_of answer)) map
 
 pub goes-by : (seals : Seals) (old mid new : Plan) (answer : Answer) (map : Map) (result : Call)
@@ -92,6 +108,7 @@ opened o grant = record {
   session = o.session;
   ask = o.ask;
   range = grant.range;
+  fetched = 0;
   next = grant.range.start;
   settled = false;
   failed = false;
@@ -118,9 +135,11 @@ back-begun plan now op alone grant supplied operation granted plain fit is =
         inside = proper-inside plan.shape.atom plan.shape.blocks plan.operation.ask
             (some-atom plan.shape.atom supplied.known.known) supplied.proper;
         starts = omega arith;
-        within = ordered plan.shape.atom plan.operation.ask;
+        within = ordered plan.shape.atom plan.operation.ask
+            (some-atom plan.shape.atom supplied.known.known);
         unfailed = refl;
         unsettled = refl;
+        fetched = refl;
         size = ap (λ xs. length xs) plain
             ∙ size-none (range_of plan.shape.atom plan.operation.ask).start plan.shape.atom;
       };

@@ -2,7 +2,7 @@
 use Rattle.std.proofs.Common.{List, None, [], ap, arith, drop, false, if◌then◌else◌, inl, inr}
 use Rattle.std.proofs.Common.{length, length-append, length-drop, min, mul-le-mul_right, nat_lt}
 use Rattle.std.proofs.Common.{replicate, length-take-le, refl, subst, sym, take, true, ℕ, ◌*◌, ◌++◌}
-use Rattle.std.proofs.Common.{◌+◌, ◌-◌, ◌<◌, ◌∙◌, ◌≡◌, ◌≤◌, ◌⊎◌}
+use Rattle.std.proofs.Common.{◌+◌, ◌-◌, ◌/◌, ◌<◌, ◌∙◌, ◌≡◌, ◌≤◌, ◌⊎◌}
 use Rattle.std.proofs.Math.Nat.{le-min}
 use Rattle.std.proofs.lemmas.Bool.{cases_Bool as either, cases_lt}
 use Rattle.std.proofs.lemmas.List.{length-replicate, take-take, drop-append-le, nil_from_length}
@@ -22,14 +22,15 @@ use Rattle.cipher_laws.specs.Laws.{UndoesSectors}
 use Rattle.volume_machine.specs.Fronts.{Front}
 use Rattle.volume_machine.specs.declared.ask.Ask.TheVariants.{Flush, Read, Write}
 use Rattle.volume_machine.specs.declared.{ask.Ask.Ask, keys.Keys.Keys, open.Open.Open}
-use Rattle.volume_machine.proofs.{KeyLemmas.side-whole, Soundness.proper-range}
-use Rattle.plain_disk.proofs.RangeLemmas.{range_of_proper, whole_blocks}
+use Rattle.volume_machine.proofs.KeyLemmas.{side-whole}
+use Rattle.plain_disk.proofs.RangeLemmas.{whole_blocks}
 use Rattle.lane_plan.specs.Calls.{ask_of}
 use Rattle.lane_plan.specs.Plans.{Awaits, HasPlain, HasRead, HasRest, IsBack, IsOnly, IsPart}
 use Rattle.lane_plan.specs.Plans.{IsSealed, IsUnderWay, Moves, MustSettle, bytes_of, finishes}
 use Rattle.lane_plan.specs.Plans.{is_zeroes, place_in, reads, settles, source_in, writes}
 use Rattle.lane_plan.specs.declared.plan.Stage.TheVariants.{Ending, Moving, Settling}
 use Rattle.lane_plan.specs.declared.{plan.Plan.Plan, plan.Shape.Shape}
+use Rattle.lane_plan.proofs.PlanAligned.{aligned_ask}
 use Rattle.lane_plan.proofs.PlanSizes.{fits-part, rest-long, size-none, some-atom}
 use Rattle.lane_plan.proofs.PlanSizes.{source-within, stays-within, total}
 use Rattle.plain_disk.specs.declared.operation.Op.TheVariants as Ops
@@ -44,7 +45,8 @@ none-yet whole _ = refl
 pub all-bytes : {shape : Shape} {o : Open} {op : Op} {alone : Alone} {map : Map} →
     IsUnderWay shape o op alone map → (o.range.end - o.range.start) * shape.atom ≡ bytes_of o.ask
 all-bytes {shape} {o} course =
-    rw course.range_is (total shape.atom (shape.blocks * shape.atom) o.ask course.proper)
+    rw course.range_is (total shape.atom o.ask (some-atom shape.atom course.known.known)
+    (aligned_ask shape.atom (shape.blocks * shape.atom) o.ask course.proper))
 
 pub whole-size : {shape : Shape} {o : Open} {op : Op} {alone : Alone} {map : Map} →
     IsUnderWay shape o op alone map → o.next ≡ o.range.end → length alone.plain ≡ bytes_of o.ask
@@ -85,18 +87,19 @@ short-read atom size offset len proper = elim (either (nat_lt 33554432 len)) [
 
 pub has-read : {shape : Shape} {o : Open} {op : Op} {alone : Alone} {map : Map}
     → IsUnderWay shape o op alone map → (offset len : ℕ) → o.ask ≡ Read offset len
-    → HasRead (o.next * shape.atom) offset len alone.plain
+    → HasRead shape.atom (o.next * shape.atom) offset len alone.plain
 has-read {shape} {o} {alone} course offset len is =
     let size = shape.blocks * shape.atom in let proper = rw is at course.proper in
-    let start : o.range.start * shape.atom ≡ offset = rw (course.range_is, is) (whole_blocks
-    shape.atom offset (range_of_proper shape.atom size offset len 22
-    (proper-range shape.atom size offset len proper)).start) in
+    let first : offset / shape.atom * shape.atom ≡ offset = whole_blocks shape.atom offset
+    (aligned_ask shape.atom size (Read offset len) proper).0 in
+    let start : o.range.start * shape.atom ≡ offset = rw (course.range_is, is) first in
     let apart : o.next ≡ o.range.start + (o.next - o.range.start) = omega arith in
     let split : o.next * shape.atom ≡ o.range.start * shape.atom + (o.next - o.range.start)
     * shape.atom = ap (λ k. k * shape.atom) apart ∙ grind arith in
     let most : o.next * shape.atom ≤ size = mul-le-mul_right shape.atom (omega arith) in
     record {
       short = short-read shape.atom size offset len proper;
+      first = first;
       place_is = omega arith;
       small = omega (arith, course.known.small);
     }
@@ -119,6 +122,9 @@ last-finishes {plan} {map} back free ends = finishes refl (record {
   map = map;
   granted = back.course.granted;
   asks = back.course.asks;
+  known = back.course.known.known;
+  aligned = aligned_ask plan.shape.atom (plan.shape.blocks * plan.shape.atom) plan.operation.ask
+      back.course.proper;
   can = record {
     locks = locks-unsettled plan.operation.ask free;
     ends = inr (record {
@@ -268,6 +274,29 @@ pub of-body : (whole other : List ℕ) (op : Op) (plain : List ℕ) → IsWrite 
 of-body whole other (Ops.Write offset body fua) plain writing so_far = so_far
 of-body whole other (Ops.Zeroes offset len fua) plain writing so_far = so_far
 of-body whole other _ plain writing so_far = absurd writing
+
+-- the bytes that a piece writes lie in the whole buffer, and fit that for pieces
+pub source-fits : {plan : Plan} {op : Op} {alone : Alone} {map : Map} {piece : Piece} (from len : ℕ)
+    → IsBack plan op alone map → IsPieceOf map plan.operation piece → IsWrite plan.operation.ask
+    → from ≡ source_in plan piece → len ≡ piece.count * plan.shape.atom
+    → from + len ≤ length plan.whole
+source-fits {plan} {op} {piece = piece} from len back next writing from_is len_is =
+    let place = place_in plan piece in
+    let asks = ap (λ a. bytes_of a) back.course.asks in
+    let source : from ≡ (if is_zeroes op then 0 else place) =
+    from_is ∙ ap (λ b. if b then 0 else place) back.writes in
+    let within : place + len ≤ bytes_of (ask_of op) = omega (arith, ends-within back.course next) in
+    let few : len ≤ 1048576 = rw len_is (rw back.course.atom at next.limit) in
+    source-within plan.whole op from place len (subst (λ a. IsWrite a) back.course.asks writing)
+    (back.rest (some-left plan.operation next)) source within few
+
+pub piece-fits : {plan : Plan} {op : Op} {alone : Alone} {map : Map} {piece : Piece} (len : ℕ)
+    → IsBack plan op alone map → IsPieceOf map plan.operation piece
+    → len ≡ piece.count * plan.shape.atom → IsPart plan.operation piece → len ≤ length plan.part
+piece-fits {plan} {map = map} {piece = piece} len back next len_is other =
+    let fits = fits-part map plan.operation piece plan.shape.atom next back.course.atom
+    back.course.starts (all-bytes back.course) other in
+    omega (arith, len_is, fits, back.part (some-left plan.operation next))
 
 -- the next piece of the body, as it was sealed
 sealed-piece : {C : Type 0} (sector : C → ℕ) (seal unseal : C → ℕ → List ℕ

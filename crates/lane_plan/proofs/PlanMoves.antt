@@ -163,6 +163,7 @@ back-moved old now op alone after map piece room o more moves same is operation 
         within = omega arith;
         unfailed = course.unfailed;
         unsettled = course.unsettled;
+        fetched = course.fetched;
         size = ap (λ xs. length xs) plain ∙ length-append alone.plain more
             ∙ (let sum = size-more old.operation.range.start old.operation.next piece.count
             (piece.first + piece.count) old.shape.atom course.starts (omega arith) in

@@ -1,7 +1,7 @@
 -- The sizes of operations, of their pieces, and of the buffers for them.
-use Rattle.std.proofs.Common.{List, None, ap, arith, inl, inr, length, length-take, min}
+use Rattle.std.proofs.Common.{List, ap, arith, inl, inr, length, length-take, min}
 use Rattle.std.proofs.Common.{mul-le-mul_right, refl, replicate, suc, take, ℕ, ◌*◌, ◌+◌}
-use Rattle.std.proofs.Common.{if◌then◌else◌, ◌-◌, ◌/◌, ◌<◌, ◌^◌, ◌≡◌, ◌≤◌}
+use Rattle.std.proofs.Common.{if◌then◌else◌, ◌%◌, ◌-◌, ◌<◌, ◌^◌, ◌∙◌, ◌≡◌, ◌≤◌}
 use Rattle.std.proofs.Math.Nat.{le-min}
 use Rattle.std.proofs.lemmas.Bool.{cases_lt}
 use Rattle.std.proofs.lemmas.List.{length-replicate}
@@ -9,33 +9,33 @@ use Rattle.plain_disk.specs.declared.operation.Op.{Op}
 use Rattle.sector_disk.specs.Geometry.{IsAtom}
 use Rattle.segment_map.specs.declared.map.Map.{Map}
 use Rattle.segment_map.specs.declared.map.Piece.{Piece}
-use Rattle.volume_machine.specs.Asks.{IsRead, IsWrite, range_of, wrong_ask}
+use Rattle.volume_machine.specs.Asks.{IsRead, IsWrite, range_of}
 use Rattle.volume_machine.specs.Pieces.{IsPieceOf}
 use Rattle.std.proofs.lemmas.Grind.{common_steps}
-use Rattle.plain_disk.proofs.RangeLemmas.{range_of_proper, whole_blocks}
+use Rattle.plain_disk.proofs.RangeLemmas.{touched_whole, whole_blocks}
+use Rattle.plain_disk.specs.Operations.{touched}
 use Rattle.volume_machine.specs.declared.ask.Ask.TheVariants.{Flush, Read, Write}
 use Rattle.volume_machine.specs.declared.{ask.Ask.Ask, open.Open.Open}
-use Rattle.volume_machine.proofs.Soundness.{proper-range}
 use Rattle.lane_plan.specs.Calls.{ask_of}
-use Rattle.lane_plan.specs.Plans.{HasRest, IsPart, bytes_of, is_zeroes, part_of}
+use Rattle.lane_plan.specs.Plans.{HasRest, IsAligned, IsPart, bytes_of, is_zeroes, part_of}
 use Rattle.plain_disk.specs.declared.operation.Op.TheVariants as Ops
 
 pub some-atom : (atom : ℕ) → IsAtom atom → 0 < atom
 some-atom atom (inl is) = omega arith
 some-atom atom (inr is) = omega arith
 
-counted : (start count atom len : ℕ) → count * atom ≡ len → (start + count - start) * atom ≡ len
-counted start count atom len is = let e : start + count - start ≡ count = omega arith in rw e is
+counted : (atom offset len : ℕ) → 0 < atom → (offset % atom ≡ 0) × (len % atom ≡ 0)
+    → touched atom offset len * atom ≡ len
+counted atom offset len some (start, whole) =
+    ap (λ n. n * atom) (touched_whole atom offset len some start whole)
+    ∙ whole_blocks atom len whole
 
 -- in bytes they are what it asks for
-pub total : (atom size : ℕ) (ask : Ask) → wrong_ask atom size ask ≡ None →
+pub total : (atom : ℕ) (ask : Ask) → 0 < atom → IsAligned atom ask →
     ((range_of atom ask).end - (range_of atom ask).start) * atom ≡ bytes_of ask
-total atom size (Read offset len) proper =
-    counted (offset / atom) (len / atom) atom len (whole_blocks atom
-    len (range_of_proper atom size offset len 22 (proper-range atom size offset len proper)).whole)
-total atom size (Write offset len fua) proper = counted (offset / atom) (len / atom)
-    atom len (whole_blocks atom len (range_of_proper atom size offset len 28 proper).whole)
-total atom size Flush proper = omega arith
+total atom (Read offset len) some is = counted atom offset len some is
+total atom (Write offset len fua) some is = counted atom offset len some is
+total atom Flush some is = omega arith
 
 -- what pieces need of the buffer is as long as the operation
 pub body-long : (body whole : List ℕ) → take (length body) whole ≡ body → length body ≤ length whole

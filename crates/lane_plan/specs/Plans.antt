@@ -1,5 +1,6 @@
 -- How a lane stands by its own calls alone, while a plan awaits the answer to the last of them.
-use Rattle.std.specs.Prelude.{ℕ, ◌≡◌, ◌≢◌, ◌+◌, ◌-◌, ◌*◌, ◌^◌, ◌<◌, ◌≤◌, ◌++◌, true, false, List}
+use Rattle.std.specs.Prelude.{ℕ, ◌≡◌, ◌≢◌, ◌+◌, ◌-◌, ◌*◌, ◌/◌, ◌%◌, ◌^◌, ◌<◌, ◌≤◌, ◌++◌, true}
+use Rattle.std.specs.Prelude.{false, List}
 use Rattle.std.specs.Prelude.{[], ◌∷◌, length, take, min, replicate, Bool, if◌then◌else◌, Some}
 use Rattle.std.specs.Prelude.{None}
 use Rattle.cipher_laws.specs.Bytes.{AreBytes}
@@ -121,6 +122,12 @@ pub record IsSupplied (shape : Shape) (o : Open) (zeroes : Bool) (whole part : L
   pub rest : HasRest whole op
   pub room : part_of shape.atom o.ask ≤ length part
 
+-- an operation of whole blocks, as all are that aren't refused: it has no edge
+abbrev pub IsAligned : ℕ → Ask → Type 0
+IsAligned atom (Read offset len) = (offset % atom ≡ 0) × (len % atom ≡ 0)
+IsAligned atom (Write offset len fua) = (offset % atom ≡ 0) × (len % atom ≡ 0)
+IsAligned atom Flush = Unit {0}
+
 -- an operation is under way under this map, and none of its calls failed
 pub record IsUnderWay (shape : Shape) (o : Open) (op : Op) (alone : Alone) (map : Map) : Type 0
   where
@@ -137,6 +144,7 @@ pub record IsUnderWay (shape : Shape) (o : Open) (op : Op) (alone : Alone) (map 
     pub within : o.next ≤ o.range.end
     pub unfailed : o.failed ≡ false
     pub unsettled : o.settled ≡ false
+    pub fetched : o.fetched ≡ 0
     pub size : length alone.plain ≡ (o.next - o.range.start) * shape.atom
 
 -- a piece is all of an operation, or isn't
@@ -175,8 +183,9 @@ pub record IsSealed (seals : Seals) (atom : ℕ) (whole : List ℕ) (op : Op) (p
   pub so_far : HasPlain whole op (plain ++ seals.opened piece.side piece.first sealed)
 
 -- a read of a length that may be served stands, at this byte, behind the bytes that were read
-pub record HasRead (place offset len : ℕ) (plain : List ℕ) : Type 0 where
+pub record HasRead (atom place offset len : ℕ) (plain : List ℕ) : Type 0 where
   pub short : len ≤ 33554432
+  pub first : offset / atom * atom ≡ offset
   pub place_is : place ≡ offset + length plain
   pub small : place < 2 ^ 63
 
@@ -186,11 +195,13 @@ pub record IsEnding (atom : ℕ) (o : Open) (whole : List ℕ) (op : Op) (alone 
   pub map : Map
   pub granted : alone.granted ≡ Some map
   pub asks : o.ask ≡ ask_of op
+  pub known : IsAtom atom
+  pub aligned : IsAligned atom o.ask
   pub can : CanFinish o
   pub plain : HasPlain whole op alone.plain
   pub total : o.failed ≡ false → length alone.plain ≡ bytes_of o.ask
   pub read : (offset : ℕ) (len : ℕ) → o.ask ≡ Read offset len →
-      HasRead (o.next * atom) offset len alone.plain
+      HasRead atom (o.next * atom) offset len alone.plain
   pub unread : o.failed ≡ true → (offset : ℕ) (len : ℕ) → o.ask ≡ Read offset len →
       length alone.plain < len
 
@@ -272,7 +283,7 @@ pub record IsAnswered (session : ℕ) (op : Op) (reply : Reply) (alone : Alone)
 -- call that meets its conditions, or the reply.
 abbrev pub Follows : Seals → Plan → Op → Alone → List Answered → Next → Type 0
 Follows seals plan op alone answered (Nexts.Call call) =
-    (answered ≡ []) × ((lane : ℕ) → MeetsAlone alone (event_of lane call))
+    (answered ≡ []) × ((lane : ℕ) → MeetsAlone seals alone (event_of lane call))
     × Awaits seals plan op alone call
 Follows seals plan op alone answered (Nexts.Reply reply spare) =
     IsAnswered (session_of plan) op reply alone answered
@@ -288,7 +299,7 @@ Goes seals old answer new next = (op : Op) (alone : Alone) (call : Call) (lane :
     Awaits seals old op alone call → MayAnswer old call answer →
     Follows seals new op (alone_after old.shape.atom seals alone (event_of lane call)
     (outcome_of answer))
-    (answered_alone alone (event_of lane call) (outcome_of answer)) next
+    (answered_alone old.shape.atom alone (event_of lane call) (outcome_of answer)) next
 
 -- a call that failed
 abbrev pub IsFailure : Answer → Type 0

@@ -10,7 +10,8 @@ use cipher_laws::SectorCipher;
 use segment_map::Piece;
 use std::alloc::{AllocError, Global};
 use std::mem;
-use volume_machine::Keys;
+use std::thread::Threads;
+use volume_machine::{Keys, Sealers};
 
 /// Takes a buffer, and leaves an empty one, which has no memory.
 #[inline(always)]
@@ -76,8 +77,10 @@ fn put_in(into: &mut [u8], at: usize, bytes: &[u8])
     into[at..at + bytes.len()].copy_from_slice(bytes);
 }
 
-/// Opens the bytes of a piece at the front of a buffer.
-pub(crate) fn unseal_front<C: SectorCipher>(
+/// Opens the bytes of a piece at the front of a buffer. Threads take a part of a long piece.
+pub(crate) fn unseal_front<R: Threads + Sync, C: SectorCipher + Sync>(
+    rt: &R,
+    sealers: &Sealers,
     keys: &Keys<C>,
     atom: u32,
     piece: Piece,
@@ -92,10 +95,12 @@ pub(crate) fn unseal_front<C: SectorCipher>(
         piece.side piece.first (take len buffer.old) }
     ensures length { length buffer.new ≡ length buffer.old }
 {
-    unseal_part(keys, atom, piece, buffer.as_mut_slice(), len);
+    unseal_part(rt, sealers, keys, atom, piece, buffer.as_mut_slice(), len);
 }
 
-fn unseal_part<C: SectorCipher>(
+fn unseal_part<R: Threads + Sync, C: SectorCipher + Sync>(
+    rt: &R,
+    sealers: &Sealers,
     keys: &Keys<C>,
     atom: u32,
     piece: Piece,
@@ -110,5 +115,5 @@ fn unseal_part<C: SectorCipher>(
         piece.side piece.first (take len bytes.old) }
     ensures length { length bytes.new ≡ length bytes.old }
 {
-    keys.unseal(atom, piece, &mut bytes[..len]);
+    keys.unseal(rt, sealers, atom, piece, &mut bytes[..len]);
 }

@@ -15,7 +15,8 @@ use cipher_laws::SectorCipher;
 use plain_disk::{Op, Reply};
 use segment_map::{Map, Piece};
 use std::alloc::{AllocError, Global};
-use volume_machine::{Ask, Keys, Open};
+use std::thread::Threads;
+use volume_machine::{Ask, Keys, Open, Sealers};
 
 /// The bytes of the longest piece: 1 MiB.
 const MOST_BYTES: usize = 1_048_576;
@@ -200,9 +201,16 @@ impl Plan {
         }
     }
 
-    /// What comes next, once the last call was answered so. The keys are the volume's.
+    /// What comes next, once the last call was answered so. The keys are the volume's. Threads take
+    /// a part of a piece of 256 KiB and more that is sealed or opened.
     #[inline(always)]
-    pub fn told<C: SectorCipher>(&mut self, keys: &Keys<C>, answer: Answer) -> Next
+    pub fn told<R: Threads + Sync, C: SectorCipher + Sync>(
+        &mut self,
+        rt: &R,
+        sealers: &Sealers,
+        keys: &Keys<C>,
+        answer: Answer,
+    ) -> Next
         requires fits { KeysFit C.sector keys.now
             (shape_of self.old).atom (shape_of self.old).blocks }
         requires told { IsTold (seals_of C.sealed C.opened (shape_of self.old).atom keys.now)
@@ -217,15 +225,15 @@ impl Plan {
         match answer {
             Answer::Held(grant) => {
                 self.operation = Open::new(self.operation.session, self.operation.ask, grant.range);
-                Next::Call(self.go_on(keys, grant.map))
+                Next::Call(self.go_on(rt, sealers, keys, grant.map))
             }
             Answer::Waiting(_) => {
                 self.stage = Stage::Waiting;
                 Next::Call(Call::Ask)
             }
             Answer::Refused(number) => self.reply(Reply::Errno(number)),
-            Answer::Got(buffer, len) => Next::Call(self.got(keys, buffer, len)),
-            Answer::Written(buffer) => Next::Call(self.written(keys, buffer)),
+            Answer::Got(buffer, len) => Next::Call(self.got(rt, sealers, keys, buffer, len)),
+            Answer::Written(buffer) => Next::Call(self.written(rt, sealers, keys, buffer)),
             Answer::Done => match self.stage {
                 Stage::Settling => self.settled(),
                 Stage::Ending => self.finished(),

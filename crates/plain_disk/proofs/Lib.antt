@@ -1,4 +1,5 @@
 pub mod BlockLemmas
+pub mod EdgeLemmas
 pub mod MeaningLemmas
 pub mod RangeLemmas
 pub mod StepLemmas

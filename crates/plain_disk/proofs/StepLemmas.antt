@@ -4,25 +4,25 @@ use Rattle.std.proofs.Common.{drop, map, replicate, slice_index_or, Option, Some
 use Rattle.std.proofs.Common.{inl, inr, Err, IfOk, refl, sym, ◌∙◌, ap, ap₂, subst, arith}
 use Rattle.std.specs.declared.alloc.AllocError.{AllocError}
 use Rattle.std.proofs.lemmas.List.{length-map, length-replicate}
-use Rattle.base_terms.specs.Blocks.{pasted, joined, blocks_of, changed}
+use Rattle.base_terms.specs.Blocks.{joined, blocks_of, changed}
 use Rattle.base_terms.specs.ErrorNumbers.{device_error}
-use Rattle.base_terms.proofs.BlockLemmas.{held_changed, blocks_of-pasted, joined-blocks_of}
+use Rattle.base_terms.proofs.BlockLemmas.{held_changed, joined-blocks_of}
 use Rattle.base_terms.proofs.BlockLemmas.{block_at}
 use Rattle.plain_disk.specs.declared.operation.Op.{Op}
 use Rattle.plain_disk.specs.declared.operation.Op.TheVariants.{Read, Write, Zeroes, Flush}
 use Rattle.plain_disk.specs.declared.operation.Reply.{Reply}
 use Rattle.plain_disk.specs.declared.operation.Reply.TheVariants.{Content, Done, Errno}
-use Rattle.plain_disk.specs.Operations.{wrong_of, IsRange}
+use Rattle.plain_disk.specs.Operations.{touched, wrong_of}
 use Rattle.plain_disk.specs.Outcomes.{IsDeviceError}
 use Rattle.plain_disk.specs.Plain.{Block, Step, ProperStep, WriteStep, newest_bytes, flushed}
-use Rattle.plain_disk.specs.Plain.{settled_blocks}
+use Rattle.plain_disk.specs.Plain.{edged, settled_blocks}
 use Rattle.plain_disk.specs.Machine.{Machine, AreBlocksOf, Steps, put, refusal_of, proper_reply}
 use Rattle.plain_disk.specs.Machine.{reply_unless, reply_to}
 use Rattle.plain_disk.proofs.BlockLemmas.{change, change_newest, change_sure, sure-take, sure-drop}
 use Rattle.plain_disk.proofs.BlockLemmas.{sure-changed, newest-flushed, sure-flushed}
 use Rattle.plain_disk.proofs.BlockLemmas.{newest_of_settled, sure_of_settled}
 use Rattle.plain_disk.proofs.MeaningLemmas.{meaning_step, meaning_wrong}
-use Rattle.plain_disk.proofs.RangeLemmas.{wrong_is_no_fault, whole_blocks, blocks_within}
+use Rattle.plain_disk.proofs.RangeLemmas.{wrong_is_no_fault}
 
 -- as many blocks as values
 same_count : (machine : Machine) (blocks : List Block) → AreBlocksOf machine blocks
@@ -77,7 +77,7 @@ read_steps machine offset len is = record {
         (Content (take len (drop offset (joined machine.newest)))) 0 is are (
           refl,
           ap (λ values. take len (drop offset (joined values))) (sym are.newest),
-          sure-take (len / machine.atom) (drop (offset / machine.atom) blocks)
+          sure-take (touched machine.atom offset len) (drop (offset / machine.atom) blocks)
               (sure-drop (offset / machine.atom) blocks are.sure),
         ),
     are,
@@ -101,28 +101,35 @@ flush_steps machine = record {
   );
 }
 
+-- the values that a write gives its blocks, in a disk of these values
+abbrev written_from : ℕ → ℕ → List ℕ → List (List ℕ) → List (List ℕ)
+written_from atom offset body values =
+    blocks_of atom (touched atom offset (length body)) (edged atom (joined values) offset body)
+
 -- a write puts its blocks in place of as many
 pub write_steps : (old new : Machine) (offset : ℕ) (body : List ℕ) (fua : Bool)
     → refusal_of old (Write offset body fua) ≡ None → new.atom ≡ old.atom
     → length new.newest ≡ length old.newest
     → new.newest ≡ changed put old.newest (offset / old.atom)
-    (blocks_of old.atom (length body / old.atom) body)
+    (written_from old.atom offset body old.newest)
     → Steps old new (Write offset body fua) Done
-unfolding ProperStep WriteStep
+unfolding ProperStep WriteStep newest_bytes
 write_steps old new offset body fua is atom count newest = record {
   atom = atom;
   count = count;
   legal = λ blocks are.
       let at = offset / old.atom in
-      let values = blocks_of old.atom (length body / old.atom) body in
+      let n = touched old.atom offset (length body) * old.atom in
+      let values = written_from old.atom offset body (map (λ block. block.newest) blocks) in
       let left = changed (change fua) blocks at values in (
-        length body,
+        n,
         left,
-        proper_steps old blocks left (Write offset body fua) Done (length body) is are (refl, refl),
+        proper_steps old blocks left (Write offset body fua) Done n is are (refl, refl),
         record {
           newest = held_changed (λ block. block.newest) (change fua) (change_newest fua)
               blocks at values
-              ∙ ap (λ held. changed put held at values) are.newest ∙ sym newest;
+              ∙ ap (λ held. changed put held at (written_from old.atom offset body held)) are.newest
+              ∙ sym newest;
           sure = sure-changed (change fua) (change_sure fua) blocks at values are.sure;
         },
       );
@@ -150,21 +157,6 @@ reply_is_no_fault machine op = by_refusal (refusal_of machine op) refl
         (length machine.newest * machine.atom) op number is
         (let e : number ≡ device_error = cc in e)
     by_refusal (Some number) is (inr same) = let e = same.1 in absurd (cc)
-
--- the values of a text into which whole blocks were put
-pub written_values : (atom count offset : ℕ) (text body : List ℕ) → 0 < atom →
-    length text ≡ count * atom
-    → IsRange atom (count * atom) offset (length body)
-    → blocks_of atom count (pasted text offset body)
-    ≡ changed put (blocks_of atom count text) (offset / atom)
-    (blocks_of atom (length body / atom) body)
-written_values atom count offset text body some long range =
-    let place : offset / atom * atom ≡ offset = whole_blocks atom offset range.start in
-    let whole : length body / atom * atom ≡ length body =
-    whole_blocks atom (length body) range.whole in
-    ap (λ at. blocks_of atom count (pasted text at body)) (sym place)
-    ∙ blocks_of-pasted count atom (offset / atom) (length body / atom) text body long
-    (blocks_within atom count offset (length body) some range) (sym whole)
 
 -- how an operation is refused, from what was found
 pub known_refusal : (machine : Machine) (op : Op) (atom size : ℕ) (found wrong : Option ℕ)
@@ -230,20 +222,21 @@ pub written_steps : (old new : Machine) (op : Op) (offset : ℕ) (body text : Li
     → op ≡ Write offset body fua → text ≡ body → refusal_of old op ≡ None
     → new.atom ≡ old.atom → length new.newest ≡ length old.newest
     → new.newest ≡ changed put old.newest (offset / old.atom)
-    (blocks_of old.atom (length text / old.atom) text)
+    (written_from old.atom offset text old.newest)
     → Steps old new op Done
 written_steps old new op offset body text fua is same proper atom count newest =
     rw is (write_steps old new offset body fua (subst (λ o. refusal_of old o ≡ None) is proper) atom
     count
     (newest ∙ ap (λ xs. changed put old.newest (offset / old.atom)
-    (blocks_of old.atom (length xs / old.atom) xs)) same))
+    (written_from old.atom offset xs old.newest)) same))
 
 -- what zeroes that aren't wrong leave: they are a write of so many zero bytes
 pub zeroed_steps : (old new : Machine) (op : Op) (offset len : ℕ) (fua : Bool)
     → op ≡ Zeroes offset len fua → refusal_of old op ≡ None
     → new.atom ≡ old.atom → length new.newest ≡ length old.newest
     → new.newest ≡ changed put old.newest (offset / old.atom)
-    (blocks_of old.atom (len / old.atom) (replicate len 0))
+    (blocks_of old.atom (touched old.atom offset len)
+    (edged old.atom (joined old.newest) offset (replicate len 0)))
     → Steps old new op Done
 zeroed_steps old new op offset len fua is proper atom count newest =
     let body = replicate len 0 in
@@ -253,7 +246,8 @@ zeroed_steps old new op offset len fua is proper atom count newest =
     ∙ subst (λ o. refusal_of old o ≡ None) is proper in
     let writes = write_steps old new offset body fua right atom count
     (newest ∙ ap (λ n. changed put old.newest (offset / old.atom)
-    (blocks_of old.atom (n / old.atom) body)) (sym (length-replicate {A = ℕ} len 0))) in
+    (blocks_of old.atom (touched old.atom offset n) (edged old.atom (joined old.newest) offset body)))
+    (sym (length-replicate {A = ℕ} len 0))) in
     rw is (record {
       atom = atom;
       count = count;
@@ -265,17 +259,3 @@ zeroed_steps old new op offset len fua is proper atom count newest =
             after,
           );
     })
-
--- the values of a text into which zeros were put
-pub zeroed_values : (atom count offset len : ℕ) (text : List ℕ) → 0 < atom →
-    length text ≡ count * atom → IsRange atom (count * atom) offset len
-    → blocks_of atom count (pasted text offset (replicate len 0))
-    ≡ changed put (blocks_of atom count text) (offset / atom)
-    (blocks_of atom (len / atom) (replicate len 0))
-zeroed_values atom count offset len text some long range =
-    let size = length-replicate {A = ℕ} len 0 in
-    subst (λ n. blocks_of atom count (pasted text offset (replicate len 0))
-    ≡ changed put (blocks_of atom count text) (offset / atom)
-    (blocks_of atom (n / atom) (replicate len 0))) size
-    (written_values atom count offset text (replicate len 0) some long
-    (subst (λ n. IsRange atom (count * atom) offset n) (sym size) range))

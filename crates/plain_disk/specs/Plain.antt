@@ -1,13 +1,13 @@
 -- One plain disk that is asked one operation after the other.
 use Rattle.std.specs.Prelude.{ℕ, ◌≡◌, ◌*◌, ◌/◌, ◌%◌, ◌≤◌, Bool, true, false, if◌then◌else◌, List}
 use Rattle.std.specs.Prelude.{[], ◌∷◌, ◌++◌, length, take, drop, map, replicate, MatchOption}
-use Rattle.base_terms.specs.Blocks.{joined, blocks_of, changed}
+use Rattle.base_terms.specs.Blocks.{pasted, joined, blocks_of, changed}
 use Rattle.base_terms.specs.ErrorNumbers.{device_error}
 use Rattle.plain_disk.specs.declared.operation.Op.{Op}
 use Rattle.plain_disk.specs.declared.operation.Op.TheVariants.{Read, Write, Zeroes, Flush}
 use Rattle.plain_disk.specs.declared.operation.Reply.{Reply}
 use Rattle.plain_disk.specs.declared.operation.Reply.TheVariants.{Content, Done, Errno, ErrnoAt}
-use Rattle.plain_disk.specs.Operations.{wrong_of}
+use Rattle.plain_disk.specs.Operations.{touched, wrong_of}
 
 -- a block: its newest value, the values before it back to the flushed one, which comes first, and
 -- whether a write of it failed, so that it may hold another than the newest
@@ -53,21 +53,32 @@ AreSure (block ∷ blocks) = (block.unsure ≡ false) × AreSure blocks
 unfoldable pub settled_blocks : List (List ℕ) → List Block
 settled_blocks values = map settled values
 
--- an operation that was answered; of a write, how many of its bytes were tried
+-- an operation that was answered; of a write, how many bytes of its blocks were tried
 pub record Exchange : Type 0 where
   pub op : Op
   pub reply : Reply
   pub tried : ℕ
 
--- a write of `body`, from the byte `offset` on, goes by its reply
+-- the bytes of the blocks that a write touches, once `body` stands in a disk of these bytes from
+-- the byte `offset` on: a block that it covers in part keeps its other bytes
+unfoldable pub edged : ℕ → List ℕ → ℕ → List ℕ → List ℕ
+edged atom bytes offset body =
+    take (touched atom offset (length body) * atom)
+    (drop (offset / atom * atom) (pasted bytes offset body))
+
+-- a write of `body`, from the byte `offset` on, goes by its reply; what was tried of it are whole
+-- blocks
 unfoldable pub WriteStep : ℕ → List Block → ℕ → List ℕ → Bool → Reply → ℕ → List Block → Type 0
 WriteStep atom old offset body fua (Content bytes) n new = ⊥
 WriteStep atom old offset body fua Done n new =
-    (n ≡ length body) × (new ≡ changed (if fua then written_for_good else written) old
-    (offset / atom) (blocks_of atom (n / atom) body))
+    (n ≡ touched atom offset (length body) * atom)
+    × (new ≡ changed (if fua then written_for_good else written) old
+    (offset / atom)
+    (blocks_of atom (touched atom offset (length body)) (edged atom (newest_bytes old) offset body)))
 WriteStep atom old offset body fua (Errno number) n new =
-    (number ≡ device_error) × (n ≤ length body) × (n % atom ≡ 0)
-    × (new ≡ changed tried old (offset / atom) (blocks_of atom (n / atom) body))
+    (number ≡ device_error) × (n ≤ touched atom offset (length body) * atom) × (n % atom ≡ 0)
+    × (new ≡ changed tried old (offset / atom)
+    (blocks_of atom (n / atom) (edged atom (newest_bytes old) offset body)))
 WriteStep atom old offset body fua (ErrnoAt number place) n new = ⊥
 
 -- an operation that isn't wrong goes by its kind and its reply; wherever a read failed, its error
@@ -75,7 +86,7 @@ WriteStep atom old offset body fua (ErrnoAt number place) n new = ⊥
 unfoldable pub ProperStep : ℕ → List Block → Op → Reply → ℕ → List Block → Type 0
 ProperStep atom old (Read offset len) (Content bytes) n new =
     (new ≡ old) × (bytes ≡ take len (drop offset (newest_bytes old)))
-    × AreSure (take (len / atom) (drop (offset / atom) old))
+    × AreSure (take (touched atom offset len) (drop (offset / atom) old))
 ProperStep atom old (Read offset len) Done n new = ⊥
 ProperStep atom old (Read offset len) (Errno number) n new = (number ≡ device_error) × (new ≡ old)
 ProperStep atom old (Read offset len) (ErrnoAt number place) n new =

@@ -7,8 +7,10 @@
 //! Tests compare with it what the server answers and what its disk holds in the end.
 #![tactic(auto)]
 
+mod laws;
 mod operation;
 mod plain_disk;
 
+pub use laws::aligned_bodies_are_edged;
 pub use operation::{MAX_READ, Op, Reply, wrong, wrong_range};
 pub use plain_disk::PlainDisk;

@@ -3,9 +3,9 @@ ghost use Rattle.std.specs.Prelude.{replicate, None, IfOk, OnErr, slice_index_or
 ghost use Rattle.base_terms.specs.Blocks.{joined, blocks_of, changed, pasted};
 ghost use Rattle.plain_disk.specs.Machine.{Machine, IsWhole, AreBlocksOf, Steps, refusal_of};
 ghost use Rattle.plain_disk.specs.Machine.{reply_to, put};
-ghost use Rattle.plain_disk.specs.Operations.{IsRange, TakesMemory};
+ghost use Rattle.plain_disk.specs.Operations.{touched, TakesMemory};
 ghost use Rattle.plain_disk.specs.Outcomes.{IsDeviceError};
-ghost use Rattle.plain_disk.specs.Plain.{settled_blocks};
+ghost use Rattle.plain_disk.specs.Plain.{settled_blocks, edged};
 
 use crate::{Op, Reply, wrong};
 use base_terms::{Bytes, paste, zeros};
@@ -131,25 +131,27 @@ impl PlainDisk {
         Ok(Reply::Content(Bytes::new(bytes)))
     }
 
-    /// Puts whole blocks in place of as many from `offset` on.
+    /// Puts bytes in place of as many from `offset` on: each block of which they are has its own
+    /// other bytes still.
     fn write(&mut self, offset: u64, body: &[u8])
-        requires { IsRange self.old.atom (length self.old.newest * self.old.atom) offset
-            (length body.now) }
+        requires { offset + length body.now ≤ length self.old.newest * self.old.atom }
         ensures atom { self.new.atom ≡ self.old.atom }
         ensures count { length self.new.newest ≡ length self.old.newest }
         ensures newest { self.new.newest ≡ changed put self.old.newest (offset / self.old.atom)
-            (blocks_of self.old.atom (length body.now / self.old.atom) body.now) }
+            (blocks_of self.old.atom (touched self.old.atom offset (length body.now))
+            (edged self.old.atom (joined self.old.newest) offset body.now)) }
     {
         paste(&mut self.bytes, offset as usize, body);
     }
 
-    /// Puts zeros in place of so many bytes of whole blocks from `offset` on.
+    /// Puts zeros in place of so many bytes from `offset` on.
     fn zero(&mut self, offset: u64, len: u32)
-        requires { IsRange self.old.atom (length self.old.newest * self.old.atom) offset len }
+        requires { offset + len ≤ length self.old.newest * self.old.atom }
         ensures atom { self.new.atom ≡ self.old.atom }
         ensures count { length self.new.newest ≡ length self.old.newest }
         ensures newest { self.new.newest ≡ changed put self.old.newest (offset / self.old.atom)
-            (blocks_of self.old.atom (len / self.old.atom) (replicate len 0)) }
+            (blocks_of self.old.atom (touched self.old.atom offset len)
+            (edged self.old.atom (joined self.old.newest) offset (replicate len 0))) }
     {
         paste_zeros(&mut self.bytes, offset as usize, len as usize);
     }

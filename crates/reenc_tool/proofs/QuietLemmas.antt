@@ -14,13 +14,14 @@ use Rattle.volume_cell.specs.declared.history.Entry.{Entry}
 use Rattle.volume_laws.specs.Executing.{Executes}
 use Rattle.volume_machine.specs.Answers.{Answered, AreTagged, Tagged}
 use Rattle.volume_machine.specs.Deeds.{Deed, answered_over}
+use Rattle.volume_machine.specs.Edges.{InPlain}
 use Rattle.volume_machine.specs.Readings.{Reading}
 use Rattle.volume_machine.specs.Runs.{Happening, answered_by, answered_in, plain_after}
 use Rattle.volume_machine.specs.Seals.{Seals}
 use Rattle.volume_machine.specs.States.{State}
 
 -- ---- the same answers and as many entries
-answers-same : {K : Type 0} (seals : Seals) (old : State K) (plain : ℕ → List ℕ)
+answers-same : {K : Type 0} (seals : Seals) (old : State K) (plain : ℕ → InPlain)
     (run : List (Happening K))
     → answered_over seals old plain (deeds_of run) ≡ answered_in seals old plain run
 unfolding answered_over answered_in deeds_of

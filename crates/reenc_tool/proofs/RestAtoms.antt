@@ -9,14 +9,15 @@ use Rattle.sector_disk.specs.DiskViews.Parts.{block_at}
 use Rattle.sector_disk.specs.DiskViews.Views.{IsOutside}
 use Rattle.segment_map.specs.declared.map.Map.{Map}
 use Rattle.segment_map.specs.declared.map.Piece.{Piece}
+use Rattle.volume_machine.specs.Edges.{InPlain}
 use Rattle.volume_machine.specs.Events.{Event, Outcome, admits, asks, broken, device, done}
-use Rattle.volume_machine.specs.Events.{finishes, got, reads, refused, settles, writes}
+use Rattle.volume_machine.specs.Events.{fetches, finishes, got, reads, refused, settles, writes}
 use Rattle.volume_machine.specs.Pieces.{IsPieceOf, place_in, place_of}
 use Rattle.volume_machine.specs.Runs.{Happening, IsRun, last_of, no_plain, plain_in}
 use Rattle.volume_machine.specs.Seals.{Seals}
 use Rattle.volume_machine.specs.Sound.{IsSound}
 use Rattle.volume_machine.specs.States.{State, IsGoverned, IsLive, open_at}
-use Rattle.volume_machine.specs.Steps.{IsAdmitted, ReadStep, SettleStep, WriteStep, Step}
+use Rattle.volume_machine.specs.Steps.{EdgeStep, IsAdmitted, ReadStep, SettleStep, WriteStep, Step}
 use Rattle.volume_machine.specs.Works.{Work}
 use Rattle.sector_disk.proofs.DiskViews.DeviceViews.{bytes-written}
 use Rattle.sector_disk.specs.Devices.{Device}
@@ -71,6 +72,13 @@ module _ {K : Type 0} (old new : State K) (sound : IsSound old) (whole : new.bro
   read-leaves lane o broken step = rested step.rests
   read-leaves lane o _ step = absurd step
 
+  fetch-leaves : (lane : ℕ) (o : Open) (which : ℕ) (outcome : Outcome)
+      → EdgeStep old lane o which outcome new → LeavesAtoms old.map bytes new.disk
+  fetch-leaves lane o which (got text) step = same-values step.call.values
+  fetch-leaves lane o which device step = same-values step.call.values
+  fetch-leaves lane o which broken step = rested step.rests
+  fetch-leaves lane o which _ step = absurd step
+
   settle-leaves : (lane : ℕ) (o : Open) (outcome : Outcome) → SettleStep old lane o outcome new
       → LeavesAtoms old.map bytes new.disk
   settle-leaves lane o done step = same-values step.call.values
@@ -124,6 +132,7 @@ module _ {K : Type 0} (old new : State K) (sound : IsSound old) (whole : new.bro
   event-leaves (admits lane session ask) outcome step = admit-leaves lane session ask outcome _ step
   event-leaves (asks lane) outcome (has, same) = rested (ap (λ s. s.disk) same)
   event-leaves (reads lane len) outcome (o, at, step) = read-leaves lane o outcome step
+  event-leaves (fetches lane which) outcome (o, at, step) = fetch-leaves lane o which outcome step
   event-leaves (writes lane text) outcome (o, at, step) =
       write-leaves lane o text outcome (sound.under_way lane o at).inside step
   event-leaves (settles lane) outcome (o, at, step) = settle-leaves lane o outcome step
@@ -182,7 +191,7 @@ none-governed state b none governed =
     (λ (work : Work). (work.range.start ≤ b) × (b < work.range.end))) none governed in
     absurd is
 
-is-newest : {K : Type 0} (state : State K) (plain : ℕ → List ℕ) (blocks : List Block) (b : ℕ)
+is-newest : {K : Type 0} (state : State K) (plain : ℕ → InPlain) (blocks : List Block) (b : ℕ)
     (value : List ℕ) → ((lane : ℕ) → open_at state.lanes lane ≡ None) → IsNow state plain blocks b value
     → value ≡ (block_in blocks b).newest
 is-newest state plain blocks b value free (inl (lane, tried)) =

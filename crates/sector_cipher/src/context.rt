@@ -1,6 +1,7 @@
 // The ciphers of LUKS2 segments, over AES.
 
 ghost use Rattle.std.specs.Prelude.{◌≡◌, ℕ, List, ◌<◌, ◌%◌, ◌↔◌, length, IsOk, IfOk, IfErr};
+ghost use Rattle.std.specs.Prelude.{IsTrue};
 ghost use Rattle.sector_cipher.specs.Names.{IsKeyLength};
 ghost use Rattle.sector_cipher.specs.Context.{sealed_under, opened_under};
 
@@ -57,6 +58,20 @@ impl DiskCipher<Aes> {
         DiskCipher {
             mode: Mode::Linear,
             sector: 512,
+        }
+    }
+
+    /// Whether it is known to change nothing.
+    #[tactic(auto, unfolding(crate::specs::Disk::sealed_in, crate::specs::Disk::opened_in, crate::specs::Disk::sealed_by, crate::specs::Disk::opened_by))]
+    pub fn is_linear(&self) -> bool
+        ensures seals { IsTrue result → (first : ℕ) (bytes : List ℕ) →
+            ⟦<Context as SectorCipher>⟧.sealed self.now first bytes ≡ bytes }
+        ensures opens { IsTrue result → (first : ℕ) (bytes : List ℕ) →
+            ⟦<Context as SectorCipher>⟧.opened self.now first bytes ≡ bytes }
+    {
+        match &self.mode {
+            Mode::Linear => true,
+            Mode::Xts(_) | Mode::CbcEssiv(_) => false,
         }
     }
 

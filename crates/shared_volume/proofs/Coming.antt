@@ -102,7 +102,8 @@ module _ {C : Type 0} (sealed opened : C → ℕ → List ℕ → List ℕ) (lim
       ∙ alone-more seals start v.calls number called answer
 
   answered-by : (history : List Tagged)
-      → AreTagged (answered_alone before (event_of number called) (outcome_of answer)) history
+      → AreTagged (answered_alone start.map.atom before (event_of number called) (outcome_of answer))
+      history
       → Answers sealed opened first w history
   answered-by history are = only-start
       (λ (s : State (Keys C)). HasAnswered
@@ -116,16 +117,18 @@ module _ {C : Type 0} (sealed opened : C → ℕ → List ℕ → List ℕ) (lim
   pub comes : (next : Next)
       → Follows seals plan op
       (alone_after start.map.atom seals before (event_of number called) (outcome_of answer))
-      (answered_alone before (event_of number called) (outcome_of answer)) next → HasBegun next
+      (answered_alone start.map.atom before (event_of number called) (outcome_of answer)) next
+      → HasBegun next
       → IsAt sealed opened limit number shape plan session op first w (Some next)
   comes (Nexts.Call then) (none, meets, awaits) begun = (
     record {
       start_is = w_is ∙ sym first_is;
       silent = answered-by [] (tagged-none _ none);
       meets = only-start
-          (λ (s : State (Keys C)). MeetsAlone (alone_by (seals_at sealed opened s) s w.calls)
+          (λ (s : State (Keys C)). MeetsAlone (seals_at sealed opened s)
+          (alone_by (seals_at sealed opened s) s w.calls)
           (event_of number then)) start w_is
-          (subst (λ a. MeetsAlone a (event_of number then)) (sym after) (meets number));
+          (subst (λ a. MeetsAlone seals a (event_of number then)) (sym after) (meets number));
       awaits = only-start
           (λ (s : State (Keys C)). Awaits (seals_at sealed opened s) plan op
           (alone_by (seals_at sealed opened s) s w.calls) then) start w_is

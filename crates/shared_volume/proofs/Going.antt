@@ -54,7 +54,8 @@ silent-on sealed opened u v w silent same = λ start is.
 -- an admit may be made on a lane without an operation
 pub may-begin : {C : Type 0} (sealed opened : C → ℕ → List ℕ → List ℕ) (v : Knowing C) (number : ℕ)
     (plan : Plan) → IsAtRest sealed opened v
-    → StandsSo sealed opened v (λ start alone. MeetsAlone alone (event_of number (first_call plan)))
+    → StandsSo sealed opened v
+    (λ start alone. MeetsAlone (seals_at sealed opened start) alone (event_of number (first_call plan)))
 unfolding MeetsAlone
 may-begin sealed opened v number plan rests = rests
 
@@ -167,7 +168,7 @@ module _ {C : Type 0} (sector : C → ℕ) (sealed opened : C → ℕ → List �
       (new_shape ∙ shape_is) next
       (subst (λ a. Follows (seals_at sealed opened start) new op
       (alone_after a (seals_at sealed opened start) alone (event_of number called)
-      (outcome_of answer)) (answered_alone alone (event_of number called) (outcome_of answer)) next)
+      (outcome_of answer)) (answered_alone a alone (event_of number called) (outcome_of answer)) next)
       (sym (atom-is old shape_is)) (those op alone called number (awaits start start_is) may)) begun
 
   -- the first call of a plan, where it was answered: what the plan may be told, and what comes next

@@ -33,7 +33,7 @@ module _ (atom : ℕ) (seals : Seals) where
   answers-joined alone [] ys = refl
   answers-joined alone (x ∷ xs) ys =
       let next = alone_after atom seals alone x.event x.outcome in
-      rw (answers-joined next xs ys) (sym (append_assoc (answered_alone alone x.event x.outcome)
+      rw (answers-joined next xs ys) (sym (append_assoc (answered_alone atom alone x.event x.outcome)
       (answers_of atom seals next xs) (answers_of atom seals (alone_of atom seals next xs) ys)))
 
 tagged-joined : (xs ys : List Answered) (first rest : List Tagged) → AreTagged xs first
@@ -104,7 +104,7 @@ module _ {K : Type 0} (seals : Seals) (start : State K) where
   -- one call, by what it answered
   pub answered-one : (calls : List (Call SharedEvent SharedOutcome)) (number : ℕ)
       (called : Plans.Call) (answer : Answer) (history : List Tagged)
-      → AreTagged (answered_alone (alone_by seals start calls) (event_of number called)
+      → AreTagged (answered_alone start.map.atom (alone_by seals start calls) (event_of number called)
       (outcome_of answer)) history
       → HasAnswered seals start calls (calls ++ answered_call number called answer ∷ []) history
   unfolding answers_of own_calls
@@ -112,6 +112,6 @@ module _ {K : Type 0} (seals : Seals) (start : State K) where
     more = answered_call number called answer ∷ [];
     is = refl;
     answered = subst (λ (l : List Answered). AreTagged l history)
-        (sym (append-nil (answered_alone (alone_by seals start calls) (event_of number called)
+        (sym (append-nil (answered_alone start.map.atom (alone_by seals start calls) (event_of number called)
         (outcome_of answer)))) are;
   }

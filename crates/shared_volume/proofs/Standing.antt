@@ -103,10 +103,10 @@ module _ {K : Type 0} (seals : Seals) (start now : State K)
           (ap (λ (n : List ℕ). own_calls (calls_of n history)) fits.lane
           ∙ own-calls (length start.lanes) history stands.deeds asked.lane stands.tells)
 
-      meets : MeetsAlone (alone_over start seals (lane_of (event_by asked)) stands.deeds)
+      meets : MeetsAlone seals (alone_over start seals (lane_of (event_by asked)) stands.deeds)
           (event_by asked)
-      meets = subst (λ k. MeetsAlone (alone_over start seals k stands.deeds) (event_by asked))
-          (sym own) (subst (λ a. MeetsAlone a (event_by asked)) so fits.meets)
+      meets = subst (λ k. MeetsAlone seals (alone_over start seals k stands.deeds) (event_by asked))
+          (sym own) (subst (λ a. MeetsAlone seals a (event_by asked)) so fits.meets)
 
       -- the call meets its conditions
       pub stands-meets : Meets now (event_by asked)

@@ -47,7 +47,7 @@ module _ {C : Type 0} (sector : C → ℕ) (sealed opened : C → ℕ → List �
     (number : ℕ) (keys : Keys C) (shape : Shape) (lane : IsLaneOf sector v number keys shape) where
   -- the call fits the asker
   pub fits-of : (called : Plans.Call)
-      → StandsSo sealed opened v (λ start alone. MeetsAlone alone (event_of number called))
+      → StandsSo sealed opened v (λ start alone. MeetsAlone (seals_at sealed opened start) alone (event_of number called))
       → HasFront called → (start : State (Keys C)) → v.start ≡ Some start
       → FitsLane (seals_at sealed opened start) start v.name v.calls (lane_call number called)
   fits-of called meets front start is =

@@ -74,7 +74,7 @@ module _ {C : Type 0} (sealed opened : C → ℕ → List ℕ → List ℕ) wher
     pub start_is : w.start ≡ v.start
     pub silent : Answers sealed opened v w []
     pub meets : StandsSo sealed opened w
-        (λ start alone. MeetsAlone alone (event_of number called))
+        (λ start alone. MeetsAlone (seals_at sealed opened start) alone (event_of number called))
     pub awaits : StandsSo sealed opened w
         (λ start alone. Awaits (seals_at sealed opened start) plan op alone called)
     pub session_is : session_of plan ≡ session

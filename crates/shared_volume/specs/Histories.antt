@@ -119,7 +119,7 @@ pub record FitsLane {K : Type 0} (seals : Seals) (start : State K) (name : List 
     (calls : List (Call SharedEvent SharedOutcome)) (asked : LaneCall) : Type 0 where
   pub lane : name ≡ asked.lane ∷ []
   pub client : suc asked.lane < length start.lanes
-  pub meets : MeetsAlone (alone_by seals start calls) (event_by asked)
+  pub meets : MeetsAlone seals (alone_by seals start calls) (event_by asked)
   pub front : HasFront asked.call
 
 -- the asker has the last lane's name, and the volume has its conversion's work

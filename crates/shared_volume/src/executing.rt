@@ -7,7 +7,6 @@ ghost use Rattle.volume_cell.specs.Passes.{IsPassOf, IsSamePass, known};
 
 use crate::calling::Called;
 use crate::lane::Lane;
-use crate::machine::SharedVolume;
 use crate::sharing::SharedCell;
 use base_terms::{Buffer, Bytes};
 use gates::{Gate, Place};
@@ -18,7 +17,6 @@ use std::alloc::{AllocError, Global};
 use std::mem;
 use std::sync::Wait;
 use std::thread::Threads;
-use volume_cell::Cell;
 
 /// What came of an operation.
 #[derive(Drop)]
@@ -121,13 +119,13 @@ impl<D: Disk> Lane<D> {
             (known self.old.pass) (known self.new.pass) result }
     {
         let mut seen = shared.departures.count();
-        let mut next = self.begin(rt, &shared.cell, plan);
+        let mut next = self.begin(rt, shared, plan);
         gate.pause(Place::Admitted);
         for _ in rt.forever() {
             match next {
                 Some(Next::Call(call)) => {
                     seen = wait(rt, shared, gate, &call, seen);
-                    next = self.step(rt, &shared.cell, plan, call);
+                    next = self.step(rt, shared, plan, call);
                 }
                 Some(Next::Reply(reply, spare)) => return Executed::Replied(reply, spare),
                 None => return Executed::Spent,
@@ -140,16 +138,16 @@ impl<D: Disk> Lane<D> {
     fn begin<R: Threads + Wait + Sync>(
         &mut self,
         rt: &R,
-        cell: &Cell<SharedVolume<D>>,
+        shared: &SharedCell<D>,
         plan: &mut Plan,
     ) -> Option<Next>
-        requires pass { IsPassOf cell.now self.old.pass }
+        requires pass { IsPassOf shared.now.cell self.old.pass }
         requires lane { IsLaneOf sector_of (known self.old.pass) self.old.number self.old.keys
             self.old.shape }
         requires rests { IsAtRest sealed opened (known self.old.pass) }
         requires plan { (session : ℕ) × (op : Op)
             × IsPlanFor self.old.shape plan.old session op }
-        ensures pass { IsPassOf cell.now self.new.pass }
+        ensures pass { IsPassOf shared.now.cell self.new.pass }
         ensures lane { IsLaneOf sector_of (known self.new.pass) self.new.number self.new.keys
             self.new.shape }
         ensures same { IsSamePass (known self.old.pass) (known self.new.pass) }
@@ -158,11 +156,11 @@ impl<D: Disk> Lane<D> {
         ensures shape { self.new.shape ≡ self.old.shape }
         ensures at { (session : ℕ) (op : Op) →
             IsPlanFor self.old.shape plan.old session op →
-            IsAt sealed opened cell.now.limit self.old.number self.old.shape plan.new session op
+            IsAt sealed opened shared.now.cell.limit self.old.number self.old.shape plan.new session op
             (known self.old.pass) (known self.new.pass) result }
     {
-        match self.turn(rt, cell, plan.first()) {
-            Called::Answered(answer) => Some(plan.told(&self.keys, answer)),
+        match self.turn(rt, &shared.cell, plan.first()) {
+            Called::Answered(answer) => Some(plan.told(rt, &shared.sealers, &self.keys, answer)),
             Called::Spent => None,
         }
     }
@@ -172,18 +170,18 @@ impl<D: Disk> Lane<D> {
     fn step<R: Threads + Wait + Sync>(
         &mut self,
         rt: &R,
-        cell: &Cell<SharedVolume<D>>,
+        shared: &SharedCell<D>,
         plan: &mut Plan,
         call: Call,
     ) -> Option<Next>
-        requires pass { IsPassOf cell.now self.old.pass }
+        requires pass { IsPassOf shared.now.cell self.old.pass }
         requires lane { IsLaneOf sector_of (known self.old.pass) self.old.number self.old.keys
             self.old.shape }
         requires way { (first : Knowing _) × (session : ℕ) × (op : Op)
             × IsOnTheWay sealed opened self.old.number self.old.shape plan.old session op first
             (known self.old.pass) call }
         requires begun { IsBegun call }
-        ensures pass { IsPassOf cell.now self.new.pass }
+        ensures pass { IsPassOf shared.now.cell self.new.pass }
         ensures lane { IsLaneOf sector_of (known self.new.pass) self.new.number self.new.keys
             self.new.shape }
         ensures same { IsSamePass (known self.old.pass) (known self.new.pass) }
@@ -193,11 +191,11 @@ impl<D: Disk> Lane<D> {
         ensures at { (first : Knowing _) (session : ℕ) (op : Op) →
             IsOnTheWay sealed opened self.old.number self.old.shape plan.old session op first
             (known self.old.pass) call →
-            IsAt sealed opened cell.now.limit self.old.number self.old.shape plan.new session op
+            IsAt sealed opened shared.now.cell.limit self.old.number self.old.shape plan.new session op
             first (known self.new.pass) result }
     {
-        match self.turn(rt, cell, call) {
-            Called::Answered(answer) => Some(plan.told(&self.keys, answer)),
+        match self.turn(rt, &shared.cell, call) {
+            Called::Answered(answer) => Some(plan.told(rt, &shared.sealers, &self.keys, answer)),
             Called::Spent => None,
         }
     }

@@ -4,7 +4,7 @@ ghost use Rattle.std.specs.Prelude.{◌≡◌, ◌+◌, [], IsSomeAnd};
 ghost use Rattle.lane_plan.specs.Calls.{event_of};
 ghost use Rattle.shared_volume.specs.Ciphers.{opened, sealed, sector_of};
 ghost use Rattle.shared_volume.specs.Calling.{HasFront};
-ghost use Rattle.shared_volume.specs.Lanes.{IsAtRest, IsCalled, IsLaneOf, IsOn, StandsSo};
+ghost use Rattle.shared_volume.specs.Lanes.{IsAtRest, IsCalled, IsLaneOf, IsOn, StandsSo, seals_at};
 ghost use Rattle.volume_cell.specs.Knowing.{having_split};
 ghost use Rattle.volume_cell.specs.Passes.{IsPassOf, IsSamePass, known};
 ghost use Rattle.volume_machine.specs.Alone.{MeetsAlone};
@@ -92,7 +92,8 @@ impl<D: Disk> Lane<D> {
         requires lane { IsLaneOf sector_of (known self.old.pass) self.old.number self.old.keys
             self.old.shape }
         requires meets { StandsSo sealed opened (known self.old.pass)
-            (λ start alone. MeetsAlone alone (event_of self.old.number call)) }
+            (λ start alone. MeetsAlone (seals_at sealed opened start) alone
+            (event_of self.old.number call)) }
         requires front { HasFront call }
         ensures pass { IsPassOf cell.now self.new.pass }
         ensures lane { IsLaneOf sector_of (known self.new.pass) self.new.number self.new.keys

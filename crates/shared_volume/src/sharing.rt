@@ -20,13 +20,15 @@ use segment_map::Map;
 use std::alloc::{AllocFailed, Global};
 use volume_cell::{Cell, Pass};
 use volume_core::{Volume, converted_of};
-use volume_machine::Keys;
+use volume_machine::{Keys, Sealers};
 
-/// A volume in its cell, and where lanes and the worker wait for its blocks. All threads have it.
+/// A volume in its cell, where lanes and the worker wait for its blocks, and how many long pieces
+/// of it are being sealed or opened. All threads have it.
 #[derive(Drop)]
 pub struct SharedCell<D: Disk> {
     pub cell: Cell<SharedVolume<D>>,
     pub departures: Departures,
+    pub sealers: Sealers,
 }
 
 /// A volume that is shared, the first pass, off which a lane's is split and the worker's behind all
@@ -66,11 +68,13 @@ pub fn share<D: Disk>(
     let Map { atom, blocks, .. } = volume.map();
     let shape = Shape { atom, blocks };
     let converted = converted_of(&volume);
+    let cuts = !keys.old.is_linear() || !keys.new.is_linear();
     match Cell::new(alloc, SharedVolume::of(alloc, volume), limit) {
         Ok((cell, first)) => Ok(Sharing {
             shared: SharedCell {
                 cell,
                 departures: Departures::new(),
+                sealers: Sealers::new(cuts),
             },
             first,
             keys,

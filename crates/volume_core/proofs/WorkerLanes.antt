@@ -4,6 +4,8 @@ use Rattle.std.proofs.Common.{refl, subst, sym, true, ℕ, ◌*◌, ◌+◌, ◌
 use Rattle.std.proofs.Common.{mul-le-mul_right, inl, inr, ◌⊎◌}
 use Rattle.std.proofs.Math.Nat.{mul-div_cancel, mul-mod_left}
 use Rattle.base_terms.specs.declared.block_range.BlockRange.{BlockRange}
+use Rattle.plain_disk.proofs.RangeLemmas.{touched_ends, touched_whole}
+use Rattle.plain_disk.specs.Operations.{touched_end}
 use Rattle.range_lock.specs.Locks.{has_entry, without}
 use Rattle.range_lock.specs.declared.Entry.{Entry}
 use Rattle.volume_machine.specs.Asks.{range_of, wrong_ask}
@@ -24,8 +26,18 @@ module _ (range : BlockRange) (atom : ℕ) (some : 0 < atom) (rises : range.star
   end-is : range.start + len_of range ≡ range.end
   end-is = omega (arith, rises)
 
+  end-touched : touched_end atom (range.start * atom) (len_of range * atom) ≡ range.end
+  end-touched =
+      sym (touched_ends atom (range.start * atom) (len_of range * atom) some)
+      ∙ rw (
+        touched_whole atom (range.start * atom) (len_of range * atom) some
+            (mul-mod_left range.start atom) (mul-mod_left (len_of range) atom),
+        mul-div_cancel range.start some,
+        mul-div_cancel (len_of range) some,
+      ) end-is
+
   pub range-on : range_of atom (write_on range atom) ≡ range
-  range-on = rw (mul-div_cancel range.start some, mul-div_cancel (len_of range) some, end-is) refl
+  range-on = rw (mul-div_cancel range.start some, end-touched) refl
 
   -- an operation that has just begun with it
   pub begun-on : begun atom 0 (write_on range atom) ≡ taken (write_on range atom) range

@@ -11,8 +11,10 @@ use Rattle.sector_disk.specs.Devices.{Device, ReadCall, WriteCall, SyncCall, suc
 use Rattle.segment_map.specs.declared.map.Map.{Map}
 use Rattle.segment_map.specs.declared.map.Piece.{Piece}
 use Rattle.volume_machine.specs.Events.{Outcome, got, done, device, broken}
-use Rattle.volume_machine.specs.Pieces.{IsPieceOf, ArePieceBytes, place_of, moved, failing}
-use Rattle.volume_machine.specs.Pieces.{settling}
+use Rattle.sector_disk.specs.DiskViews.Parts.{AreBlocks}
+use Rattle.volume_machine.specs.Edges.{edge_at}
+use Rattle.volume_machine.specs.Pieces.{IsPieceOf, ArePieceBytes, place_in, place_of, fetching}
+use Rattle.volume_machine.specs.Pieces.{moved, failing, settling}
 use Rattle.volume_machine.specs.declared.open.Open.{Open}
 
 -- an operation that locks its blocks has its entry behind all others; any other is held without one
@@ -47,6 +49,23 @@ Reads map is_broken o device after old new = CallsPiece map is_broken o after
     (λ piece. failing o)
 Reads map is_broken o broken after old new = FindsBroken is_broken o after old new
 Reads map is_broken o _ after old new = ⊥
+
+-- it makes a device call on an edge of the operation
+pub record CallsEdge (map : Map) (is_broken : Bool) (o after : Open) (which : ℕ)
+    (Calls : ℕ → Type 0) (left : Open) : Type 0 where
+  pub was : is_broken ≡ false
+  pub call : Calls (place_in map (edge_at map.atom o.ask which))
+  pub leaves : after ≡ left
+
+abbrev pub Fetches : Map → Bool → Open → ℕ → Outcome → Open → Device → Device → Type 0
+Fetches map is_broken o which (got bytes) after old new = CallsEdge map is_broken o after which
+    (λ place. AreBlocks map.atom 1 bytes × ReadCall map.atom place bytes old new succeeded)
+    (fetching o)
+Fetches map is_broken o which device after old new = CallsEdge map is_broken o after which
+    (λ place. (bytes : List ℕ) × ReadCall map.atom place bytes old new failed_call)
+    (failing o)
+Fetches map is_broken o which broken after old new = FindsBroken is_broken o after old new
+Fetches map is_broken o which _ after old new = ⊥
 
 abbrev pub Writes : Map → Bool → Open → List ℕ → Outcome → Open → Device → Device → Type 0
 Writes map is_broken o bytes done after old new = CallsPiece map is_broken o after

@@ -80,6 +80,7 @@ taken ask range = record {
   session = 0;
   ask = ask;
   range = range;
+  fetched = 0;
   next = range.start;
   settled = false;
   failed = false;

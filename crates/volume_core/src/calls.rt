@@ -1,13 +1,14 @@
 // What an event of an operation under way does on the disk, and what it leaves of the operation.
 
-ghost use Rattle.std.specs.Prelude.{◌≡◌, ◌≤◌, ◌||◌, length, take};
+ghost use Rattle.std.specs.Prelude.{◌≡◌, ◌<◌, ◌≤◌, ◌||◌, length, take};
 ghost use Rattle.volume_core.specs.Answers.{buffer_of_read, buffer_of_written, KeepsBuffer};
 ghost use Rattle.volume_core.specs.Answers.{outcome_of_read, outcome_of_settled};
 ghost use Rattle.volume_core.specs.Answers.{outcome_of_written};
-ghost use Rattle.volume_core.specs.Calls.{Reads, Syncs, Writes};
+ghost use Rattle.volume_core.specs.Calls.{Fetches, Reads, Syncs, Writes};
+ghost use Rattle.volume_machine.specs.Edges.{edge_at};
 ghost use Rattle.volume_machine.specs.Effects.{is_fault};
 ghost use Rattle.volume_machine.specs.Sound.{MapFits};
-ghost use Rattle.volume_machine.specs.Steps.{CanRead, CanWrite};
+ghost use Rattle.volume_machine.specs.Steps.{CanFetch, CanRead, CanWrite};
 
 use crate::answers::{PieceRead, PieceWritten, Settled};
 use base_terms::{Buffer, Failed};
@@ -43,6 +44,42 @@ pub fn read_next<D: Disk>(
     match read_into(disk, map.place(piece.first), buffer, len) {
         Ok(buffer) => {
             *operation = operation.moved(piece);
+            PieceRead::Got(buffer)
+        }
+        Err(buffer) => {
+            *operation = operation.failing();
+            PieceRead::Device(buffer)
+        }
+    }
+}
+
+/// Reads an edge of an operation into the front of a buffer. A read that fails breaks nothing.
+pub fn read_edge<D: Disk>(
+    disk: &mut D,
+    map: Map,
+    is_broken: bool,
+    operation: &mut Open,
+    which: u32,
+    buffer: Buffer,
+) -> PieceRead
+    requires fits { MapFits map (D.device disk.old).atoms }
+    requires atom { map.atom ≡ (D.device disk.old).size }
+    requires inside { edge_at map.atom operation.old.ask which < map.blocks }
+    requires can { CanFetch map which operation.old }
+    requires front { map.atom ≤ length buffer }
+    ensures reads { Fetches map is_broken operation.old which (outcome_of_read map.atom result)
+        operation.new (D.device disk.old) (D.device disk.new) }
+    ensures buffer { length (buffer_of_read result) ≡ length buffer }
+    ensures kept { KeepsBuffer buffer result }
+{
+    if is_broken {
+        *operation = operation.failing();
+        return PieceRead::Broken(buffer);
+    }
+    let block = operation.ask.edge(map.atom, which);
+    match read_into(disk, map.place(block), buffer, map.atom as usize) {
+        Ok(buffer) => {
+            *operation = operation.fetching();
             PieceRead::Got(buffer)
         }
         Err(buffer) => {

@@ -9,8 +9,8 @@ ghost use Rattle.range_lock.specs.Locks.{has_entry};
 ghost use Rattle.volume_core.specs.Calls.{Locks};
 ghost use Rattle.volume_machine.specs.Asks.{kind_of, range_of};
 ghost use Rattle.volume_machine.specs.Beginnings.{IsFresh};
-ghost use Rattle.volume_machine.specs.Events.{admits, asks, reads, writes, settles, finishes, done};
-ghost use Rattle.volume_machine.specs.Events.{refused};
+ghost use Rattle.volume_machine.specs.Events.{admits, asks, reads, fetches, writes, settles};
+ghost use Rattle.volume_machine.specs.Events.{finishes, done, refused};
 ghost use Rattle.volume_machine.specs.Beginnings.{ChangeNothing};
 ghost use Rattle.volume_machine.specs.Seals.{KeysFit, seals_of};
 ghost use Rattle.volume_machine.specs.Sound.{AreApart, IsSound, MapFits};
@@ -19,7 +19,7 @@ ghost use Rattle.volume_machine.specs.Steps.{Holds, IsReadyFor, Meets, Step};
 ghost use Rattle.volume_machine.specs.Beginnings.{IsWholeDisk, new_volume};
 
 use crate::answers::{Admitted, Asked, PieceRead, PieceWritten, Progress, Settled};
-use crate::calls::{read_next, sync_all, write_next};
+use crate::calls::{read_edge, read_next, sync_all, write_next};
 use crate::lanes::Lanes;
 use base_terms::{BlockRange, Buffer, DEVICE_ERROR};
 use cipher_laws::SectorCipher;
@@ -343,6 +343,31 @@ impl<D: Disk, C: SectorCipher + Copy> Volume<D, C> {
             &mut open,
             buffer,
             len,
+        );
+        set_lane(&mut self.lanes, lane, Some(open));
+        read
+    }
+
+    /// Reads an edge of a lane's write, which holds its blocks and has made no piece yet, into the
+    /// front of a buffer: the first block that it covers in part, or the second one. The bytes come
+    /// sealed, as they lie on the disk. The buffer comes back as long as it was. A read that fails
+    /// breaks nothing; the write then ends.
+    pub fn edge_read(&mut self, lane: u32, which: u32, buffer: Buffer) -> PieceRead
+        requires meets { Meets self.old (fetches lane which) }
+        requires front { self.old.map.atom ≤ length buffer }
+        ensures step { Step self.old (fetches lane which)
+            (outcome_of_read self.old.map.atom result) self.new }
+        ensures buffer { length (buffer_of_read result) ≡ length buffer }
+        ensures kept { KeepsBuffer buffer result }
+    {
+        let mut open = open_of(&self.lanes, lane);
+        let read = read_edge(
+            &mut self.disk,
+            self.map,
+            self.broken,
+            &mut open,
+            which,
+            buffer,
         );
         set_lane(&mut self.lanes, lane, Some(open));
         read

@@ -1,21 +1,21 @@
 -- Lemmas on operations that were answered, as steps of the plain disk.
 use Rattle.std.proofs.Common.{Bool, List, None, Option, Some, [], ap, arith, drop, if◌then◌else◌}
-use Rattle.std.proofs.Common.{inl, inr, length, map, nat_lt, refl, sym, take, ℕ, ◌%◌, ◌*◌, ◌/◌, ◌<◌}
-use Rattle.std.proofs.Common.{◌∙◌, ◌∷◌, ◌≡◌, ◌≤◌, ◌⊎◌}
-use Rattle.std.proofs.Math.Nat.{mul-div_cancel, mul-mod_left}
-use Rattle.std.proofs.lemmas.Bool.{cases_Bool as either}
+use Rattle.std.proofs.Common.{length, map, refl, sym, take, ℕ, ◌%◌, ◌*◌, ◌/◌, ◌<◌, ◌∙◌, ◌∷◌, ◌≡◌}
+use Rattle.std.proofs.Common.{◌≤◌}
+use Rattle.std.proofs.Math.Nat.{mul-div_cancel, mul-le-mul_right, mul-mod_left}
 use Rattle.std.proofs.lemmas.List.{ext_get_or}
 use Rattle.base_terms.proofs.BlockLemmas.{changed-nil}
 use Rattle.base_terms.specs.Blocks.{blocks_of, changed}
-use Rattle.plain_disk.specs.Operations.{wrong_of, wrong_range_of}
+use Rattle.plain_disk.specs.Operations.{touched, wrong_of}
 use Rattle.plain_disk.specs.Plain.{Block, Exchange, flushed, tried, written, written_for_good}
-use Rattle.plain_disk.specs.Plain.{AreSure, Legal, ProperStep, newest_bytes}
+use Rattle.plain_disk.specs.Plain.{AreSure, Legal, ProperStep, edged, newest_bytes}
 use Rattle.plain_disk.specs.declared.operation.Op.{Op}
 use Rattle.plain_disk.specs.declared.operation.Reply.TheVariants.{Content, Done, Errno}
 use Rattle.sector_disk.proofs.DiskViews.Blockwise.{block_at-take}
-use Rattle.sector_disk.specs.Geometry.{IsAtom}
-use Rattle.volume_machine.specs.Answers.{Answered, Asked, IsExchange, refusal, AreExchanges}
+use Rattle.volume_machine.specs.Answers.{Answered, Asked, BeginsWith, IsExchange, refusal}
+use Rattle.volume_machine.specs.Answers.{AreExchanges}
 use Rattle.volume_machine.specs.Asks.{wrong_ask}
+use Rattle.volume_machine.specs.Edges.{InPlain, KeepsEdges, in_range, nothing}
 use Rattle.sector_disk.proofs.DiskViews.Entries.{blocks_of-at, length-blocks_of}
 use Rattle.plain_disk.specs.declared.operation.{Reply.Reply, Reply.TheVariants.ErrnoAt}
 use Rattle.plain_disk.specs.{Operations.meaning_of, Plain.Step, Plain.WriteStep}
@@ -24,9 +24,9 @@ use Rattle.volume_machine.specs.declared.ask.Ask.{Ask}
 use Rattle.volume_machine.specs.declared.ask.Ask.TheVariants.{Flush, Read, Write}
 
 -- what was answered of an operation
-abbrev pub answer : ℕ → Ask → List ℕ → Reply → Answered
-answer session ask plain reply =
-    record { session = session; ask = ask; plain = plain; reply = reply }
+abbrev pub answer : ℕ → ℕ → Ask → InPlain → Reply → Answered
+answer atom session ask plain reply =
+    record { session = session; atom = atom; ask = ask; plain = plain; reply = reply }
 
 -- what a write that is done does to its blocks
 abbrev pub change_of : Bool → Block → List ℕ → Block
@@ -47,12 +47,12 @@ legal_one atom left next one (exchange ∷ []) step are = (next, step exchange a
 legal_one atom left next one (exchange ∷ (other ∷ exchanges)) step are = absurd are.1
 
 -- an operation is wrong where what it asks for is
-pub wrong_asked : (atom size : ℕ) (ask : Ask) (plain : List ℕ) (op : Op) → Asked ask plain op
-    → wrong_of atom size op ≡ wrong_ask atom size ask
-wrong_asked atom size (Read offset len) plain op is = rw is refl
-wrong_asked atom size (Write offset len fua) plain op (body, is, long, begins) =
+pub wrong_asked : (own atom size : ℕ) (ask : Ask) (bytes : List ℕ) (op : Op)
+    → Asked own ask bytes op → wrong_of atom size op ≡ wrong_ask atom size ask
+wrong_asked own atom size (Read offset len) bytes op is = rw is refl
+wrong_asked own atom size (Write offset len fua) bytes op (body, is, long, begins) =
     sym (meaning_wrong atom size op) ∙ rw (is, long) refl
-wrong_asked atom size Flush plain op is = rw is refl
+wrong_asked own atom size Flush bytes op is = rw is refl
 
 -- the first blocks of a text are those of its front
 pub blocks_of-front : (atom m : ℕ) (text front : List ℕ) → take (m * atom) text ≡ front
@@ -64,43 +64,25 @@ blocks_of-front atom m text front begins =
     blocks_of-at atom m text k [] inside ∙ sym (rw (← begins) (
     blocks_of-at atom m (take (m * atom) text) k [] inside ∙ block_at-take atom m text k inside)))
 
--- a range that isn't wrong is of whole blocks
-range_whole : (atom size offset len past : ℕ) → IsAtom atom
-    → wrong_range_of atom size offset len past ≡ None →
-    (offset / atom * atom ≡ offset) × (len / atom * atom ≡ len)
-range_whole atom size offset len past known proper = elim known [
-  | inl is ↦ whole_at 512 (inl refl) (rw is at proper) is
-  | inr is ↦ whole_at 4096 (inr refl) (rw is at proper) is
-]
-  where
-    whole_at : (a : ℕ) → (a ≡ 512) ⊎ (a ≡ 4096) → wrong_range_of a size offset len past ≡ None
-        → atom ≡ a → (offset / atom * atom ≡ offset) × (len / atom * atom ≡ len)
-    whole_at a which right same = rw same (grind (arith, which, right), grind (arith, which, right))
-
-pub read_whole : (atom size offset len : ℕ) → IsAtom atom → wrong_ask atom size (Read offset len)
-    ≡ None → (offset / atom * atom ≡ offset) × (len / atom * atom ≡ len)
-read_whole atom size offset len known proper =
-    range_whole atom size offset len 22 known (elim (either (nat_lt 33554432 len)) [
-      | inl long ↦ absurd (let wrong = rw long at proper in cc)
-      | inr short ↦ rw short at proper
-    ])
-
-pub write_whole : (atom size offset len : ℕ) (fua : Bool) → IsAtom atom
-    → wrong_ask atom size (Write offset len fua) ≡ None
-    → (offset / atom * atom ≡ offset) × (len / atom * atom ≡ len)
-write_whole atom size offset len fua known proper = range_whole atom size offset len 28 known proper
+-- so many blocks that a write tried are what the plain disk makes of them, whatever its body
+abbrev pub TellsEdged : ℕ → List Block → ℕ → ℕ → Bool → ℕ → InPlain → Type 0
+TellsEdged atom left offset len fua n plain = (body : List ℕ) → length body ≡ len
+    → BeginsWith body (in_range atom offset len plain.bytes)
+    → KeepsEdges atom (Write offset len fua) plain
+    → take (n * atom) (edged atom (newest_bytes left) offset body) ≡ plain.bytes
 
 module _ (atom : ℕ) (left : List Block) {blocks : ℕ} (count : length left ≡ blocks)
     {exchange : Exchange} where
   judged : {one : Answered} (wrong : Option ℕ) → wrong_ask atom (blocks * atom) one.ask ≡ wrong
       → IsExchange one exchange → wrong_of atom (length left * atom) exchange.op ≡ wrong
-  judged {one = one} wrong is_wrong is = wrong_asked atom (length left * atom) one.ask
-      one.plain exchange.op is.op ∙ ap (λ n. wrong_ask atom (n * atom) one.ask) count ∙ is_wrong
+  judged {one = one} wrong is_wrong is = wrong_asked one.atom atom (length left * atom)
+      one.ask one.plain.bytes exchange.op is.op
+      ∙ ap (λ n. wrong_ask atom (n * atom) one.ask) count ∙ is_wrong
 
   -- a wrong operation
   pub step_wrong : {session : ℕ} {ask : Ask} {number : ℕ}
       → wrong_ask atom (blocks * atom) ask ≡ Some number
-      → IsExchange (refusal session ask number) exchange → Step atom left exchange left
+      → IsExchange (refusal atom session ask number) exchange → Step atom left exchange left
   unfolding Step
   step_wrong {number = number} wrong is = rw (judged (Some number) wrong is) (is.reply, refl)
 
@@ -115,12 +97,12 @@ module _ (atom : ℕ) (left : List Block) {blocks : ℕ} (count : length left �
 
   -- refused on a broken volume
   pub step_refused : {session : ℕ} {ask : Ask} → wrong_ask atom (blocks * atom) ask ≡ None
-      → 0 < atom → IsExchange (refusal session ask 5) exchange → Step atom left exchange left
+      → 0 < atom → IsExchange (refusal atom session ask 5) exchange → Step atom left exchange left
   unfolding ProperStep WriteStep blocks_of
   step_refused {session = session} {ask = ask} proper some is =
       proper_goes left proper is (goes ask is)
     where
-      goes : (ask : Ask) → IsExchange (refusal session ask 5) exchange
+      goes : (ask : Ask) → IsExchange (refusal atom session ask 5) exchange
           → ProperStep atom left (meaning_of exchange.op) exchange.reply exchange.tried left
       goes (Read offset len) is = rw (is.op, is.reply) (refl, refl)
       goes (Write offset len fua) is =
@@ -136,65 +118,79 @@ module _ (atom : ℕ) (left : List Block) {blocks : ℕ} (count : length left �
       goes Flush is = rw (is.op, is.reply) (refl, refl)
 
   -- a read that was answered by its bytes, and one that was answered by 5
-  pub step_read : {session offset len : ℕ} {plain : List ℕ} → wrong_ask atom (blocks
-      * atom) (Read offset len) ≡ None → (plain ≡ take len (drop offset (newest_bytes left)))
-      × AreSure (take (len / atom) (drop (offset / atom) left))
-      → IsExchange (answer session (Read offset len) plain (Content plain)) exchange
-      → Step atom left exchange left
+  pub step_read : {session offset len : ℕ} {plain : InPlain} → wrong_ask atom (blocks
+      * atom) (Read offset len) ≡ None
+      → (in_range atom offset len plain.bytes ≡ take len (drop offset (newest_bytes left)))
+      × AreSure (take (touched atom offset len) (drop (offset / atom) left))
+      → IsExchange (answer atom session (Read offset len) plain
+      (Content (in_range atom offset len plain.bytes))) exchange → Step atom left exchange left
   unfolding ProperStep
   step_read proper right is =
       proper_goes left proper is (rw (is.op, is.reply) (refl, right.0, right.1))
 
-  pub step_unread : {session offset len place : ℕ} {plain : List ℕ}
+  pub step_unread : {session offset len place : ℕ} {plain : InPlain}
       → wrong_ask atom (blocks * atom) (Read offset len) ≡ None
-      → IsExchange (answer session (Read offset len) plain (ErrnoAt 5 place)) exchange
+      → IsExchange (answer atom session (Read offset len) plain (ErrnoAt 5 place)) exchange
       → Step atom left exchange left
   unfolding ProperStep
   step_unread proper is = proper_goes left proper is (rw (is.op, is.reply) (refl, refl))
 
   -- a write that is done, and one that failed
-  pub step_written : {session offset len : ℕ} {fua : Bool} {plain : List ℕ} (n : ℕ)
+  pub step_written : {session offset len : ℕ} {fua : Bool} {plain : InPlain} (n : ℕ)
       → wrong_ask atom (blocks * atom) (Write offset len fua) ≡ None
-      → length plain ≡ len → length plain ≡ n * atom → len / atom ≡ n
-      → IsExchange (answer session (Write offset len fua) plain Done) exchange → Step
-      atom left exchange (changed (change_of fua) left (offset / atom) (blocks_of atom n plain))
+      → length plain.bytes ≡ n * atom → touched atom offset len ≡ n
+      → TellsEdged atom left offset len fua n plain
+      → IsExchange (answer atom session (Write offset len fua) plain Done) exchange → Step
+      atom left exchange (changed (change_of fua) left (offset / atom) (blocks_of atom n plain.bytes))
   unfolding ProperStep WriteStep
-  step_written {offset = offset} {fua = fua} {plain = plain} n proper long whole counted is =
-      let (body, op, body_long, begins) = is.op in
-      let same : blocks_of atom (length plain / atom) body ≡ blocks_of atom n plain =
-      ap (λ m. blocks_of atom (m / atom) body) long ∙ ap (λ m. blocks_of atom m body) counted
-      ∙ blocks_of-front atom n body plain (ap (λ m. take m body) (sym whole) ∙ begins) in
+  step_written {offset = offset} {len = len} {fua = fua} {plain = plain} n proper whole counted tells
+      is =
+      let (body, op, long, begins) = is.op in
+      let count : touched atom offset (length body) ≡ n =
+      ap (λ l. touched atom offset l) long ∙ counted in
+      let same : blocks_of atom (touched atom offset (length body))
+      (edged atom (newest_bytes left) offset body) ≡ blocks_of atom n plain.bytes =
+      ap (λ m. blocks_of atom m (edged atom (newest_bytes left) offset body)) count
+      ∙ blocks_of-front atom n (edged atom (newest_bytes left) offset body) plain.bytes
+      (tells body long begins is.edges) in
       proper_goes _ proper is (rw (op, is.reply, is.tried) (
-        long ∙ sym body_long,
+        whole ∙ ap (λ m. m * atom) (sym count),
         ap (λ bs. changed (change_of fua) left (offset / atom) bs) (sym same),
       ))
 
-  pub step_unwritten : {session offset len : ℕ} {fua : Bool} {plain : List ℕ} (n : ℕ)
+  pub step_unwritten : {session offset len : ℕ} {fua : Bool} {plain : InPlain} (n : ℕ)
       → wrong_ask atom (blocks * atom) (Write offset len fua) ≡ None → 0 < atom
-      → length plain ≤ len → length plain ≡ n * atom
-      → IsExchange (answer session (Write offset len fua) plain (Errno 5)) exchange
-      → Step atom left exchange (changed tried left (offset / atom) (blocks_of atom n plain))
+      → length plain.bytes ≡ n * atom → n ≤ touched atom offset len
+      → TellsEdged atom left offset len fua n plain
+      → IsExchange (answer atom session (Write offset len fua) plain (Errno 5)) exchange
+      → Step atom left exchange (changed tried left (offset / atom) (blocks_of atom n plain.bytes))
   unfolding ProperStep WriteStep
-  step_unwritten {offset = offset} {plain = plain} n proper some most whole is =
-      let (body, op, body_long, begins) = is.op in
-      let counted : length plain / atom ≡ n = ap (λ m. m / atom) whole ∙ mul-div_cancel n some in
-      let even : length plain % atom ≡ 0 = ap (λ m. m % atom) whole ∙ mul-mod_left n atom in
-      let same : blocks_of atom (length plain / atom) body ≡ blocks_of atom n plain =
-      ap (λ m. blocks_of atom m body) counted
-      ∙ blocks_of-front atom n body plain (ap (λ m. take m body) (sym whole) ∙ begins) in
+  step_unwritten {offset = offset} {len = len} {plain = plain} n proper some whole few tells is =
+      let (body, op, long, begins) = is.op in
+      let counted : length plain.bytes / atom ≡ n =
+      ap (λ m. m / atom) whole ∙ mul-div_cancel n some in
+      let even : length plain.bytes % atom ≡ 0 = ap (λ m. m % atom) whole ∙ mul-mod_left n atom in
+      let most : n * atom ≤ touched atom offset (length body) * atom =
+      rw long (mul-le-mul_right atom few) in
+      let same : blocks_of atom (length plain.bytes / atom)
+      (edged atom (newest_bytes left) offset body) ≡ blocks_of atom n plain.bytes =
+      ap (λ m. blocks_of atom m (edged atom (newest_bytes left) offset body)) counted
+      ∙ blocks_of-front atom n (edged atom (newest_bytes left) offset body) plain.bytes
+      (tells body long begins is.edges) in
       proper_goes _ proper is (rw (op, is.reply, is.tried) (
         refl,
-        rw body_long most,
+        rw whole most,
         even,
         ap (λ bs. changed tried left (offset / atom) bs) (sym same),
       ))
 
   -- a flush that is done, and one that failed
-  pub step_flushed : {session : ℕ} → IsExchange (answer session Flush [] Done) exchange
+  pub step_flushed : {session : ℕ} → IsExchange (answer atom session Flush nothing Done) exchange
       → Step atom left exchange (map flushed left)
   unfolding ProperStep
   step_flushed is = proper_goes _ refl is (rw (is.op, is.reply) refl)
 
   pub step_unflushed : {session : ℕ} → 0 < atom
-      → IsExchange (answer session Flush [] (Errno 5)) exchange → Step atom left exchange left
+      → IsExchange (answer atom session Flush nothing (Errno 5)) exchange
+      → Step atom left exchange left
   step_unflushed some is = step_refused refl some is

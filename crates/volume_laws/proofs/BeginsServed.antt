@@ -8,6 +8,7 @@ use Rattle.plain_disk.specs.Plain.{Block}
 use Rattle.sector_disk.specs.DiskViews.Views.{View}
 use Rattle.segment_map.specs.declared.Side.TheVariants.{Old}
 use Rattle.volume_machine.specs.Asks.{range_of, has_lock}
+use Rattle.volume_machine.specs.Edges.{InPlain}
 use Rattle.volume_machine.specs.Pieces.{place_in}
 use Rattle.volume_machine.specs.Seals.{Seals}
 use Rattle.volume_machine.specs.States.{IsGoverned, IsLive, State, open_at}
@@ -42,7 +43,7 @@ use Rattle.volume_laws.proofs.WorkAround.{IsIn, worked_served}
 
 -- ---- what the last lane holds
 -- no lane has tried a block that the worker holds
-pub zone_untried : {K : Type 0} {state : State K} {plain : ℕ → List ℕ} {left : List Block}
+pub zone_untried : {K : Type 0} {state : State K} {plain : ℕ → InPlain} {left : List Block}
     (work : Work) (b lane : ℕ) (value : List ℕ) → Logic state plain left → 0 < state.map.atom
     → HoldsZone state work → work.range.start ≤ b → b < work.range.end
     → IsTriedBy state plain lane b value → ⊥
@@ -56,11 +57,11 @@ zone_untried {state = state} {plain = plain} work b lane value logic some held f
           let exact = knows.exact held.unfailed in
           let next = held.next in
           let size = knows.are.size in
-          let enough : suc (b - tried.o.range.start) * state.map.atom ≤ length (plain held.lane) =
-          subst (λ n. suc (b - tried.o.range.start) * state.map.atom ≤ length (plain n)) (sym same)
+          let enough : suc (b - tried.o.range.start) * state.map.atom ≤ length (plain held.lane).bytes =
+          subst (λ n. suc (b - tried.o.range.start) * state.map.atom ≤ length (plain n).bytes) (sym same)
           tried.tried in
           let none : knows.count ≡ 0 = omega (arith, exact, next) in
-          let empty : length (plain held.lane) ≡ 0 =
+          let empty : length (plain held.lane).bytes ≡ 0 =
           size ∙ ap (λ n. n * state.map.atom) none ∙ omega arith in
           absurd (let bound : 1 * state.map.atom
           ≤ suc (b - tried.o.range.start) * state.map.atom = grind arith in
@@ -78,7 +79,7 @@ has_blocks atom Flush b is below =
     absurd (let none = ap (λ r. r.end) is in omega (arith, none, below))
 
 -- no lane that has tried or read a block of it is under way
-held_beside : {K : Type 0} {state : State K} {plain : ℕ → List ℕ} {left : List Block} (work : Work)
+held_beside : {K : Type 0} {state : State K} {plain : ℕ → InPlain} {left : List Block} (work : Work)
     (lane : ℕ) (o : Open) (b : ℕ) → Logic state plain left → HoldsZone state work
     → open_at state.lanes lane ≡ Some o → (knows : LaneKnows state plain left lane o)
     → o.range.start ≤ b → b < o.range.start + knows.count
@@ -196,7 +197,7 @@ module _ {K : Type 0} {reading : Reading} {old new : State K} (begins : Begins r
       areas area has = subst (λ p. Contains (wiped_later p) area) begins.planned.progress has
 
   -- the zone's blocks hold their newest values
-  begun_now : {seals : Seals} {plain : ℕ → List ℕ} {left : List Block} {view : View}
+  begun_now : {seals : Seals} {plain : ℕ → InPlain} {left : List Block} {view : View}
       → Logic old plain left → 0 < old.map.atom → Shown old seals plain left view → (i : ℕ)
       → i < begins.work.zone.own.count
       → view.current (begins.work.zone.own.start + i) ≡ (texts_of old.map.atom seals left begins.work).old i
@@ -226,7 +227,7 @@ module _ {K : Type 0} {reading : Reading} {old new : State K} (begins : Begins r
   first_part atom texts = subst (KnowsPart atom texts begins.work.zone) (sym begins.planned.part) tt
 
 pub begins_served : {K P Q : Type 0} {reading : Reading} {old new : State K} {seals : Seals}
-    {plain : ℕ → List ℕ} {left : List Block} → Here P Q old seals plain left
+    {plain : ℕ → InPlain} {left : List Block} → Here P Q old seals plain left
     → Begins reading old new → Here P Q new seals plain left
 begins_served {old = old} {new = new} {seals = seals} {left = left} here begins =
     let on = begins.goes in

@@ -12,12 +12,13 @@ use Rattle.sector_disk.specs.DiskViews.Views.{IsOutside}
 use Rattle.sector_disk.specs.Steps.{MovesOrNot, Told}
 use Rattle.segment_map.specs.declared.map.Piece.{Piece}
 use Rattle.volume_machine.specs.Events.{Event, Outcome, admits, asks, broken, device, done}
-use Rattle.volume_machine.specs.Events.{finishes, got, reads, refused, settles, writes}
+use Rattle.volume_machine.specs.Events.{fetches, finishes, got, reads, refused, settles, writes}
 use Rattle.volume_machine.specs.Pieces.{ArePieceBytes, IsPieceOf, place_of}
 use Rattle.volume_machine.specs.Runs.{Happening, IsRun, last_of}
 use Rattle.volume_machine.specs.Sound.{IsSound}
 use Rattle.volume_machine.specs.States.{State}
-use Rattle.volume_machine.specs.Steps.{IsAdmitted, Meets, ReadStep, SettleStep, WriteStep, Can}
+use Rattle.volume_machine.specs.Steps.{EdgeStep, IsAdmitted, Meets, ReadStep, SettleStep, WriteStep}
+use Rattle.volume_machine.specs.Steps.{Can}
 use Rattle.volume_machine.specs.Steps.{Step}
 use Rattle.volume_machine.specs.Working.{KeepsApart}
 use Rattle.std.proofs.lemmas.List.{get_or_past}
@@ -116,6 +117,13 @@ module _ {K : Type 0} (old new : State K) (lane : ℕ) where
   read_leaves o broken step = leaves_none (ap (λ d. d.told) step.rests)
   read_leaves o _ step = absurd step
 
+  edge_leaves : (o : Open) (which : ℕ) (outcome : Outcome) → EdgeStep old lane o which outcome new
+      → Leaves (IsBeside old) old.disk.told new.disk.told
+  edge_leaves o which (got bytes) step = leaves_by _ stays (inr step.call.told)
+  edge_leaves o which device step = leaves_by _ stays step.call.told
+  edge_leaves o which broken step = leaves_none (ap (λ d. d.told) step.rests)
+  edge_leaves o which _ step = absurd step
+
   settle_leaves : (o : Open) (outcome : Outcome) → SettleStep old lane o outcome new
       → Leaves (IsBeside old) old.disk.told new.disk.told
   settle_leaves o done step = leaves_by _
@@ -154,6 +162,8 @@ event_leaves old new (asks lane) outcome sound apart meets (has, same) =
     leaves_none (ap (λ s. s.disk.told) same)
 event_leaves old new (reads lane len) outcome sound apart meets (o, at, step) =
     read_leaves old new lane o outcome step
+event_leaves old new (fetches lane which) outcome sound apart meets (o, at, step) =
+    edge_leaves old new lane o which outcome step
 event_leaves old new (writes lane bytes) outcome sound apart meets (o, at, step) =
     let (p, is, can) = meets.can.0 in let same : p ≡ o = cc in
     write_leaves old new lane o bytes outcome (sound.under_way lane o at).begun

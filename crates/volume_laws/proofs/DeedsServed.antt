@@ -6,8 +6,9 @@ use Rattle.plain_disk.specs.Plain.{Block, Exchange, values_of, Legal}
 use Rattle.sector_disk.specs.DiskViews.Parts.{cell_in, value_in, block_at}
 use Rattle.sector_disk.specs.DiskViews.Views.{View, view_of_bytes, view_of_cells}
 use Rattle.volume_machine.specs.Answers.{AreExchanges}
-use Rattle.volume_machine.specs.Events.{Event, Outcome, admits, asks, finishes, got, device, done}
-use Rattle.volume_machine.specs.Events.{lane_of, reads, settles, writes}
+use Rattle.volume_machine.specs.Edges.{InPlain, nothing}
+use Rattle.volume_machine.specs.Events.{Event, Outcome, admits, asks, device, done, fetches, finishes}
+use Rattle.volume_machine.specs.Events.{got, lane_of, reads, settles, writes}
 use Rattle.volume_machine.specs.Pieces.{place_in}
 use Rattle.volume_machine.specs.Runs.{no_plain, plain_after}
 use Rattle.volume_machine.specs.Seals.{Seals}
@@ -44,7 +45,7 @@ use Rattle.volume_laws.proofs.ZoneStandings.{stands_now, stands_taken}
 
 -- what holds at a moment of a run of deeds
 pub record Moment {K : Type 0} (P Q : Type 0) (reading : Reading) (state : State K) (seals : Seals)
-    (plain : ℕ → List ℕ) (left : List Block) (handed : Handed) : Type 0 where
+    (plain : ℕ → InPlain) (left : List Block) (handed : Handed) : Type 0 where
   pub here : Here P Q state seals plain left
   pub courses : Courses reading state
   pub none : NothingOfWorkers state plain
@@ -52,13 +53,16 @@ pub record Moment {K : Type 0} (P Q : Type 0) (reading : Reading) (state : State
 
 -- an event leaves what other lanes have in plain
 plain_left : {K : Type 0} (seals : Seals) (old : State K) (event : Event) (outcome : Outcome)
-    (plain : ℕ → List ℕ) (k : ℕ) → k ≢ lane_of event
+    (plain : ℕ → InPlain) (k : ℕ) → k ≢ lane_of event
     → plain_after seals old event outcome plain k ≡ plain k
 unfolding plain_after
-plain_left seals old (admits lane session ask) outcome plain k other = plain-other plain lane [] k other
+plain_left seals old (admits lane session ask) outcome plain k other = plain-other plain lane nothing k other
 plain_left seals old (asks lane) outcome plain k other = refl
 plain_left seals old (reads lane len) (got sealed) plain k other = plain-other plain lane _ k other
 plain_left seals old (reads lane len) _ plain k other = refl
+plain_left seals old (fetches lane which) (got sealed) plain k other =
+    plain-other plain lane _ k other
+plain_left seals old (fetches lane which) _ plain k other = refl
 plain_left seals old (writes lane sealed) done plain k other = plain-other plain lane _ k other
 plain_left seals old (writes lane sealed) device plain k other = plain-other plain lane _ k other
 plain_left seals old (writes lane sealed) _ plain k other = refl
@@ -67,7 +71,7 @@ plain_left seals old (finishes lane) outcome plain k other = refl
 
 -- what a deed leaves, and what was answered
 record DeedServed {K : Type 0} (P Q : Type 0) (reading : Reading) (seals : Seals) (old new : State K)
-    (now : ℕ → List ℕ) (left : List Block) (handed : Handed) (exchanges : List Exchange) : Type 0
+    (now : ℕ → InPlain) (left : List Block) (handed : Handed) (exchanges : List Exchange) : Type 0
   where
     next : List Block
     legal : Legal old.map.atom left exchanges next
@@ -75,7 +79,7 @@ record DeedServed {K : Type 0} (P Q : Type 0) (reading : Reading) (seals : Seals
     atom : new.map.atom ≡ old.map.atom
 
 deed_served : {K P Q : Type 0} {reading : Reading} {seals : Seals} {old new : State K}
-    {plain : ℕ → List ℕ} {left : List Block} {handed : Handed} (act : Act)
+    {plain : ℕ → InPlain} {left : List Block} {handed : Handed} (act : Act)
     (exchanges : List Exchange) → Moment P Q reading old seals plain left handed → Q
     → Does reading seals old act new → AreExchanges (answered_of old act plain) exchanges
     → DeedServed P Q reading seals old new (plain_by seals old act plain) left
@@ -116,7 +120,7 @@ deed_served {reading = reading} {old = old} {new = new} {left = left} {handed = 
 
 -- a run goes on from a moment to another
 pub record DeedsRan {K : Type 0} (P Q : Type 0) (reading : Reading) (seals : Seals) (old : State K)
-    (plain : ℕ → List ℕ) (left : List Block) (handed : Handed) (deeds : List (Deed K))
+    (plain : ℕ → InPlain) (left : List Block) (handed : Handed) (deeds : List (Deed K))
     (exchanges : List Exchange) : Type 0 where
   pub next : List Block
   pub legal : Legal old.map.atom left exchanges next
@@ -124,7 +128,7 @@ pub record DeedsRan {K : Type 0} (P Q : Type 0) (reading : Reading) (seals : Sea
       (handed_over old handed deeds)
 
 pub deeds_served : {K P Q : Type 0} {reading : Reading} {seals : Seals} {old : State K}
-    {plain : ℕ → List ℕ} {left : List Block} {handed : Handed} (deeds : List (Deed K))
+    {plain : ℕ → InPlain} {left : List Block} {handed : Handed} (deeds : List (Deed K))
     (exchanges : List Exchange)
     → Moment P Q reading old seals plain left handed → Q → AreDeeds reading seals old deeds
     → AreExchanges (answered_over seals old plain deeds) exchanges
@@ -280,7 +284,7 @@ now_beside reading start seals = λ layout header progress blocks bytes deeds ex
     (by_now reading moment.here reader work at (moment.courses work at) hashes whole) in
     (ran.next, ran.legal, stands, given)
   where
-    by_now : {K P : Type 0} {state : State K} {seals : Seals} {plain : ℕ → List ℕ}
+    by_now : {K P : Type 0} {state : State K} {seals : Seals} {plain : ℕ → InPlain}
         {left : List Block} (reading : Reading) (here : Here P (Unit {0}) state seals plain left)
         → IsReader reading.reader → (work : Work) → state.work ≡ Some work
         → IsOnCourse reading state work → ReadsDigests reading state → state.broken ≡ false

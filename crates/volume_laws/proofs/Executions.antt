@@ -8,6 +8,7 @@ use Rattle.plain_disk.specs.Plain.{Block, Exchange}
 use Rattle.sector_disk.specs.Cells.{Cell}
 use Rattle.sector_disk.specs.Steps.{Told}
 use Rattle.volume_machine.specs.Answers.{Answered, Tagged, AreExchanges, AreTagged, untagged}
+use Rattle.volume_machine.specs.Edges.{InPlain}
 use Rattle.volume_machine.specs.Runs.{Happening, no_plain, IsRun, answered_by, answered_in, last_of}
 use Rattle.volume_machine.specs.Runs.{plain_after, plain_in}
 use Rattle.volume_machine.specs.Seals.{Seals}
@@ -37,7 +38,7 @@ unfolding last_of
 last-joined old [] ys = refl
 last-joined old (x ∷ xs) ys = last-joined x.after xs ys
 
-pub answered-joined : {K : Type 0} (seals : Seals) (old : State K) (plain : ℕ → List ℕ)
+pub answered-joined : {K : Type 0} (seals : Seals) (old : State K) (plain : ℕ → InPlain)
     (xs ys : List (Happening K)) → answered_in seals old plain (xs ++ ys) ≡ answered_in
     seals old plain xs ++ answered_in seals (last_of old xs) (plain_in seals old plain xs) ys
 unfolding answered_in last_of plain_in

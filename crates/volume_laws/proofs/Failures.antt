@@ -3,12 +3,12 @@ use Rattle.std.proofs.Common.{Bool, List, None, Option, Some, [], ap, arith, fal
 use Rattle.std.proofs.Common.{nat_eq, refl, sym, true, ℕ, ◌||◌, ◌∙◌, ◌∷◌, ◌≡◌, ◌≤◌}
 use Rattle.std.proofs.lemmas.Bool.{cases_Bool as either}
 use Rattle.base_terms.specs.Causes.{Rose}
-use Rattle.volume_machine.specs.Alone.{after_got, after_put, after_sync, open_after}
+use Rattle.volume_machine.specs.Alone.{after_edge, after_got, after_put, after_sync, open_after}
 use Rattle.volume_machine.specs.Asks.{has_lock}
 use Rattle.volume_machine.specs.Beginnings.{IsFresh}
 use Rattle.volume_machine.specs.Effects.{breaks, is_fault}
 use Rattle.volume_machine.specs.Events.{Event, Outcome, admits, asks, broken, device, done, got}
-use Rattle.volume_machine.specs.Events.{held, lane_of, reads, settles, waits, writes}
+use Rattle.volume_machine.specs.Events.{fetches, held, lane_of, reads, settles, waits, writes}
 use Rattle.volume_machine.specs.Runs.{Happening, IsRun, last_of}
 use Rattle.volume_machine.specs.States.{State, begun, open_at}
 use Rattle.volume_machine.specs.Steps.{Meets, after_settle, Can, Step}
@@ -26,6 +26,13 @@ got_fails atom (got sealed) o = sym (or-false o.failed)
 got_fails atom device o = sym (or-true o.failed)
 got_fails atom broken o = sym (or-true o.failed)
 got_fails atom _ o = sym (or-false o.failed)
+
+edge_fails : (outcome : Outcome) (o : Open) →
+    (after_edge outcome o).failed ≡ (o.failed || is_failure outcome)
+edge_fails (got sealed) o = sym (or-false o.failed)
+edge_fails device o = sym (or-true o.failed)
+edge_fails broken o = sym (or-true o.failed)
+edge_fails _ o = sym (or-false o.failed)
 
 put_fails : (atom : ℕ) (sealed : List ℕ) (outcome : Outcome) (o : Open) →
     (after_put atom sealed outcome o).failed ≡ (o.failed || is_failure outcome)
@@ -63,6 +70,9 @@ own_fails old (asks lane) outcome now before at meets was o is = was o is
 own_fails old (reads lane len) outcome (Some q) before at meets was o is =
     let e : o ≡ after_got old.map.atom outcome q = cc in ap (λ x. x.failed) e
     ∙ got_fails old.map.atom outcome q ∙ ap (λ b. b || is_failure outcome) (was q refl)
+own_fails old (fetches lane which) outcome (Some q) before at meets was o is =
+    let e : o ≡ after_edge outcome q = cc in ap (λ x. x.failed) e
+    ∙ edge_fails outcome q ∙ ap (λ b. b || is_failure outcome) (was q refl)
 own_fails old (writes lane sealed) outcome (Some q) before at meets was o is =
     let e : o ≡ after_put old.map.atom sealed outcome q = cc in ap (λ x. x.failed) e
     ∙ put_fails old.map.atom sealed outcome q ∙ ap (λ b. b || is_failure outcome) (was q refl)

@@ -6,6 +6,7 @@ use Rattle.crash_laws.specs.HotZones.Zones.{Resilience}
 use Rattle.plain_disk.specs.Plain.{Block}
 use Rattle.sector_disk.specs.DiskViews.Parts.{block_at}
 use Rattle.sector_disk.specs.DiskViews.Views.{IsOutside, View}
+use Rattle.volume_machine.specs.Edges.{InPlain}
 use Rattle.volume_machine.specs.Pieces.{place_in}
 use Rattle.volume_machine.specs.Seals.{Seals}
 use Rattle.volume_machine.specs.States.{IsLive, State, open_at}
@@ -42,7 +43,7 @@ use Rattle.volume_laws.proofs.Workings.{ended_live, works_apart}
 
 -- a call that fails leaves of live blocks no more than was there
 module _ {K : Type 0} {old mid : State K} {next : Work} (on : Proceeds old mid old.map next true) where
-  around_failed : {plain : ℕ → List ℕ} {seals : Seals} {left : List Block} {view after : View}
+  around_failed : {plain : ℕ → InPlain} {seals : Seals} {left : List Block} {view after : View}
       → Logic old plain left → old.broken ≡ false → Works old
       → ((b : ℕ) → IsLive mid b → IsLive old b)
       → ((b : ℕ) → IsLive old b → HasNoMore view after (place_in old.map b))
@@ -58,7 +59,7 @@ module _ {K : Type 0} {old mid : State K} {next : Work} (on : Proceeds old mid o
             (subst (λ m. Contains (after.candidates (place_in m b)) atom) on.map_is contains)) in
             (value, allowed_kept (same_tried on) left b value allowed, sealed));
         settled = λ lane o is forced is_settled b from to atom contains. subst (λ m. IsSealed m
-            seals b (block_at m.atom (plain lane) (b - o.range.start)) atom) (sym on.map_is)
+            seals b (block_at m.atom (plain lane).bytes (b - o.range.start)) atom) (sym on.map_is)
             (let is_old : open_at old.lanes lane ≡ Some o =
             ap (λ l. open_at l lane) (sym on.lanes) ∙ is in
             let knows = logic.lanes lane o is_old in
@@ -105,7 +106,7 @@ module _ {seals : Seals} {atom : ℕ} {work : Work} {old new : Device} where
   fails_phased {phase} {next_phase} resilience fails phased = phase_of_kind resilience next_phase
       (fails_kind fails ∙ kind_of_phase resilience phase phased)
 
-module _ {K P Q : Type 0} {old new : State K} {seals : Seals} {plain : ℕ → List ℕ}
+module _ {K P Q : Type 0} {old new : State K} {seals : Seals} {plain : ℕ → InPlain}
     {left : List Block} (here : Here P Q old seals plain left) (work : Work)
     (was : old.work ≡ Some work) (whole : old.broken ≡ false) where
   -- the volume breaks, and the last lane has its operation still
@@ -156,7 +157,7 @@ module _ {K P Q : Type 0} {old new : State K} {seals : Seals} {plain : ℕ → L
       (λ o at. (here.works work was).worker frees.lane o frees.last at)
       (λ next is unbroken. absurd (let broke = frees.broken_is in cc))
 
-pub faults_served : {K P Q : Type 0} {old new : State K} {seals : Seals} {plain : ℕ → List ℕ}
+pub faults_served : {K P Q : Type 0} {old new : State K} {seals : Seals} {plain : ℕ → InPlain}
     {left : List Block} → Here P Q old seals plain left → Faults seals old new
     → Here P Q new seals plain left
 faults_served {old = old} {seals = seals} {left = left} here it =
@@ -187,7 +188,7 @@ spare_beside layout header area _ spare its_store i below = absurd (omega (arith
 spare_beside layout header area _ spare (its_header copy) i below =
     apart_outside area (place_of layout copy) i (spare.copies copy) below
 
-pub wipe_fails_served : {K P Q : Type 0} {old new : State K} {seals : Seals} {plain : ℕ → List ℕ}
+pub wipe_fails_served : {K P Q : Type 0} {old new : State K} {seals : Seals} {plain : ℕ → InPlain}
     {left : List Block} → Here P Q old seals plain left → MissesWipe old new
     → Here P Q new seals plain left
 wipe_fails_served {old = old} {new = new} {seals = seals} {left = left} here it =

@@ -5,6 +5,7 @@ use Rattle.std.proofs.Common.{suc, sym, true, ℕ, ◌<◌, ◌∙◌, ◌∷◌
 use Rattle.crash_laws.proofs.HotZones.ZoneFrames.{zone_stays}
 use Rattle.crash_laws.specs.HotZones.Zones.{journal}
 use Rattle.plain_disk.specs.Plain.{Block}
+use Rattle.volume_machine.specs.Edges.{InPlain, nothing}
 use Rattle.volume_machine.specs.Pieces.{place_in}
 use Rattle.volume_machine.specs.Seals.{Seals}
 use Rattle.volume_machine.specs.States.{IsLive, State, open_at}
@@ -70,7 +71,7 @@ module _ {K : Type 0} {old new : State K} {layout : Layout} {header : Header (Li
       }))
 
 -- ---- an area is wiped, and all are certain to be
-pub wipes_served : {K P Q : Type 0} {old new : State K} {seals : Seals} {plain : ℕ → List ℕ}
+pub wipes_served : {K P Q : Type 0} {old new : State K} {seals : Seals} {plain : ℕ → InPlain}
     {left : List Block} → Here P Q old seals plain left → Q → Wipes old new
     → Here P Q new seals plain left
 wipes_served {old = old} {new = new} {seals = seals} {left = left} here all it =
@@ -103,7 +104,7 @@ wipes_served {old = old} {new = new} {seals = seals} {left = left} here all it =
           }));
     })
 
-pub wiped_served : {K P Q : Type 0} {old new : State K} {seals : Seals} {plain : ℕ → List ℕ}
+pub wiped_served : {K P Q : Type 0} {old new : State K} {seals : Seals} {plain : ℕ → InPlain}
     {left : List Block} → Here P Q old seals plain left → IsWiped old new
     → Here P Q new seals plain left
 wiped_served {old = old} {new = new} {seals = seals} {left = left} here it =
@@ -153,8 +154,8 @@ works_taken {old = old} {new = new} it works one is_one =
     (λ area (k, below, is). absurd (omega (arith, below))))
 
 pub takes_served : {K P Q : Type 0} {reading : Reading} {old new : State K} {seals : Seals}
-    {plain : ℕ → List ℕ} {left : List Block} {outcome : Outcome} → Here P Q old seals plain left
-    → (it : Takes reading old new outcome) → plain it.lane ≡ [] → Here P Q new seals plain left
+    {plain : ℕ → InPlain} {left : List Block} {outcome : Outcome} → Here P Q old seals plain left
+    → (it : Takes reading old new outcome) → plain it.lane ≡ nothing → Here P Q new seals plain left
 takes_served {old = old} {new = new} {plain = plain} {left = left} {outcome = outcome} here it none =
     let goes = it.admitted.goes in
     let fresh = begun_open old.map.atom it.session it.ask in
@@ -165,7 +166,7 @@ takes_served {old = old} {new = new} {plain = plain} {left = left} {outcome = ou
     here_after here goes.map (works_taken it here.works) (λ whole. (sym goes.broken_is ∙ whole, refl))
     (logic_kept goes (λ whole. whole) sound (λ k other. refl) (holds_admitted it.admitted)
     (λ o same. let e : o ≡ fresh = cc in
-    rw e (knows_nothing none refl (omega (arith, under_way.begun, under_way.within)) refl refl))
+    rw e (knows_nothing none refl refl (omega (arith, under_way.begun, under_way.within)) refl refl))
     here.logic)
     (moves_not it.admitted.rests here.values)
     (λ view after same. shown_kept (goes_stays goes) (writes_stay goes.map goes.lane_is

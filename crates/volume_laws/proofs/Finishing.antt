@@ -10,6 +10,7 @@ use Rattle.sector_disk.proofs.DiskViews.Blockwise.{one_block}
 use Rattle.sector_disk.specs.DiskViews.Parts.{AreBlocks, block_at}
 use Rattle.sector_disk.specs.DiskViews.Views.{IsOutside, IsUnchanged, View}
 use Rattle.volume_machine.specs.Asks.{IsForced, IsRead, IsWrite}
+use Rattle.volume_machine.specs.Edges.{InPlain, edge_at}
 use Rattle.volume_machine.specs.Pieces.{place_in}
 use Rattle.volume_machine.specs.Seals.{Seals}
 use Rattle.volume_machine.specs.Sound.{IsSound}
@@ -18,7 +19,7 @@ use Rattle.volume_machine.specs.Steps.{Goes, Holds}
 use Rattle.volume_machine.specs.Working.{Works}
 use Rattle.sector_disk.proofs.DiskViews.Entries.{length-changed}
 use Rattle.volume_machine.specs.declared.open.Open.{Open}
-use Rattle.volume_machine.proofs.Locking.{holds-without}
+use Rattle.volume_machine.proofs.{EdgeBlocks.edges_write, Locking.holds-without}
 use Rattle.volume_laws.specs.Contents.{AreBlocksOf, IsAllowedAt, IsNow, IsSealed, IsTriedBy}
 use Rattle.volume_laws.specs.Contents.{block_in}
 use Rattle.volume_laws.specs.Texts.{texts_of}
@@ -27,7 +28,8 @@ use Rattle.volume_laws.proofs.Invariant.{logic_kept, shown_by, shown_kept, tried
 use Rattle.volume_laws.proofs.Reading.{held_apart, never_both, read_untried, reads_lock}
 use Rattle.volume_laws.proofs.Reading.{tried_apart, writes_lock}
 use Rattle.volume_laws.proofs.{Admits.idle, PlainBlocks.block_in-changed_inside}
-use Rattle.volume_laws.proofs.{PlainBlocks.block_in-changed_outside, Settling.knows_renewed}
+use Rattle.volume_laws.proofs.{PlainBlocks.block_in-changed_outside, Settling.edge_inside}
+use Rattle.volume_laws.proofs.Settling.{knows_renewed}
 use Rattle.volume_laws.proofs.{Settling.own_value, Workings.zone_renewed, Writing.in_piece}
 
 -- a lane ended its operation
@@ -39,13 +41,13 @@ module _ {K : Type 0} {old new : State K} {lane : ℕ} (goes : Ends old new lane
   still_holds k other held = rw goes.entries_are
       (holds-without lane k old.entries (λ same. other (sym same)) held)
 
-  pub logic_ended : {plain : ℕ → List ℕ} {left : List Block}
+  pub logic_ended : {plain : ℕ → InPlain} {left : List Block}
       → IsSound new → Logic old plain left → Logic new plain left
   logic_ended sound = logic_kept goes (λ whole. whole) sound (λ k other. refl) still_holds
       (λ o is. absurd (cc))
 
 -- a read that ended
-pub shown_read_ended : {K : Type 0} {old new : State K} {plain : ℕ → List ℕ} {seals : Seals}
+pub shown_read_ended : {K : Type 0} {old new : State K} {plain : ℕ → InPlain} {seals : Seals}
     {left : List Block} {lane : ℕ} {o : Open} {view next : View}
     → open_at old.lanes lane ≡ Some o → IsRead o.ask → Ends old new lane → IsUnchanged view next
     → Shown old seals plain left view → Shown new seals plain left next
@@ -55,7 +57,7 @@ shown_read_ended is reads goes same = shown_kept (goes_stays goes) (writes_stay
 
 -- A write that ended, and what it made of the blocks that it tried: each has the new value, and
 -- either keeps those before, or was settled.
-pub record EndsWrite {K : Type 0} (old new : State K) (plain : ℕ → List ℕ) (left : List Block)
+pub record EndsWrite {K : Type 0} (old new : State K) (plain : ℕ → InPlain) (left : List Block)
     (lane : ℕ) (o : Open) (change : Block → List ℕ → Block) (count : ℕ) : Type 0 where
   pub some : 0 < old.map.atom
   pub logic : Logic old plain left
@@ -63,7 +65,7 @@ pub record EndsWrite {K : Type 0} (old new : State K) (plain : ℕ → List ℕ)
   pub writes : IsWrite o.ask
   pub holds : Holds old lane
   pub goes : Ends old new lane
-  pub are : AreBlocks old.map.atom count (plain lane)
+  pub are : AreBlocks old.map.atom count (plain lane).bytes
   pub most : o.range.start + count ≤ o.range.end
   pub newest : (block : Block) (value : List ℕ) → (change block value).newest ≡ value
   pub has : (block : Block) (value : List ℕ) → Contains (values_of (change block value)) value
@@ -73,18 +75,18 @@ pub record EndsWrite {K : Type 0} (old new : State K) (plain : ℕ → List ℕ)
       → Contains (values_of (change block value)) other) ⊎ (IsForced o.ask × (o.settled ≡ true))
 
 -- the plain disk's blocks then
-abbrev pub ended_blocks : {K : Type 0} → State K → (ℕ → List ℕ) → List Block → ℕ → Open
+abbrev pub ended_blocks : {K : Type 0} → State K → (ℕ → InPlain) → List Block → ℕ → Open
     → (Block → List ℕ → Block) → ℕ → List Block
 ended_blocks old plain left lane o change count =
-    changed change left o.range.start (blocks_of old.map.atom count (plain lane))
+    changed change left o.range.start (blocks_of old.map.atom count (plain lane).bytes)
 
-pub ended_outside : {K : Type 0} (old : State K) (plain : ℕ → List ℕ) (left : List Block) (lane : ℕ)
+pub ended_outside : {K : Type 0} (old : State K) (plain : ℕ → InPlain) (left : List Block) (lane : ℕ)
     (o : Open) (change : Block → List ℕ → Block) (count b : ℕ) → IsOutside o.range.start count b
     → block_in (ended_blocks old plain left lane o change count) b ≡ block_in left b
 ended_outside old plain left lane o change count b outside =
-    block_in-changed_outside change left old.map.atom o.range.start count (plain lane) b outside
+    block_in-changed_outside change left old.map.atom o.range.start count (plain lane).bytes b outside
 
-module _ {K : Type 0} {old new : State K} {plain : ℕ → List ℕ} {left : List Block} {lane : ℕ}
+module _ {K : Type 0} {old new : State K} {plain : ℕ → InPlain} {left : List Block} {lane : ℕ}
     {o : Open} {change : Block → List ℕ → Block} {count : ℕ}
     (it : EndsWrite old new plain left lane o change count) where
   -- the plain disk's blocks once the write has ended
@@ -93,13 +95,13 @@ module _ {K : Type 0} {old new : State K} {plain : ℕ → List ℕ} {left : Lis
 
   -- a block that it tried, and one that it didn't
   ended_inside : (j : ℕ) → j < count → block_in ended (o.range.start + j)
-      ≡ change (block_in left (o.range.start + j)) (block_at old.map.atom (plain lane) j)
+      ≡ change (block_in left (o.range.start + j)) (block_at old.map.atom (plain lane).bytes j)
   ended_inside j below = block_in-changed_inside change left old.map.atom o.range.start count
-      (plain lane) j below (let inside = (it.logic.sound.under_way lane o it.at).inside in
+      (plain lane).bytes j below (let inside = (it.logic.sound.under_way lane o it.at).inside in
       omega arith)
 
   ended_at : (b j : ℕ) → j < count → b ≡ o.range.start + j
-      → block_in ended b ≡ change (block_in left b) (block_at old.map.atom (plain lane) j)
+      → block_in ended b ≡ change (block_in left b) (block_at old.map.atom (plain lane).bytes j)
   ended_at b j lt is = rw is (ended_inside j lt)
 
   ended_beside : (b : ℕ) → IsOutside o.range.start count b → block_in ended b ≡ block_in left b
@@ -140,16 +142,16 @@ module _ {K : Type 0} {old new : State K} {plain : ℕ → List ℕ} {left : Lis
 
   -- what the ended write tried
   own_of : (b : ℕ) (value : List ℕ) → IsTriedBy old plain lane b value → (j : ℕ)
-      × (j < count) × (b ≡ o.range.start + j) × (value ≡ block_at old.map.atom (plain lane) j)
+      × (j < count) × (b ≡ o.range.start + j) × (value ≡ block_at old.map.atom (plain lane).bytes j)
   own_of b value tried =
       let one : tried.o ≡ o = cc in
       let begun : o.range.start ≤ b = subst (λ p. p.range.start ≤ b) one tried.begun in
-      let enough : suc (b - o.range.start) * old.map.atom ≤ length (plain lane) =
-      subst (λ p. suc (b - p.range.start) * old.map.atom ≤ length (plain lane)) one tried.tried in (
+      let enough : suc (b - o.range.start) * old.map.atom ≤ length (plain lane).bytes =
+      subst (λ p. suc (b - p.range.start) * old.map.atom ≤ length (plain lane).bytes) one tried.tried in (
         b - o.range.start,
         grind (arith, enough, it.are.size, it.some),
         omega arith,
-        subst (λ p. value ≡ block_at old.map.atom (plain lane) (b - p.range.start)) one
+        subst (λ p. value ≡ block_at old.map.atom (plain lane).bytes (b - p.range.start)) one
             tried.value_is,
       )
 
@@ -159,12 +161,12 @@ module _ {K : Type 0} {old new : State K} {plain : ℕ → List ℕ} {left : Lis
 
   ended_are : AreBlocksOf old.map ended
   ended_are = record {
-    count = length-changed change left o.range.start (blocks_of old.map.atom count (plain lane))
+    count = length-changed change left o.range.start (blocks_of old.map.atom count (plain lane).bytes)
         ∙ it.logic.are.count;
     newest = λ b below. elim (in_piece o.range.start count b) [
       | inl (j, lt, is) ↦ rw (ap (λ block. block.newest) (ended_at b j lt is)
-          ∙ it.newest (block_in left b) (block_at old.map.atom (plain lane) j))
-          (one_block old.map.atom count (plain lane) j it.are lt)
+          ∙ it.newest (block_in left b) (block_at old.map.atom (plain lane).bytes j))
+          (one_block old.map.atom count (plain lane).bytes j it.are lt)
       | inr outside ↦ rw (ended_beside b outside) (it.logic.are.newest b below)
     ];
   }
@@ -185,23 +187,42 @@ module _ {K : Type 0} {old new : State K} {plain : ℕ → List ℕ} {left : Lis
         | inr outside ↦ ended_beside (p.range.start + i) outside
       ]
 
-  pub logic_write_ended : IsSound new → (old.broken ≡ false → (block : Block) (value : List ℕ)
-      → (change block value).unsure ≡ false) → Logic new plain ended
+  -- what others have read of their edges isn't what the ended write tried
+  edge_beside : (k : ℕ) (p : Open) (which : ℕ) → k ≢ lane → open_at old.lanes k ≡ Some p
+      → (knows : LaneKnows old plain left k p) → which < p.fetched
+      → block_in ended (edge_at old.map.atom p.ask which)
+      ≡ block_in left (edge_at old.map.atom p.ask which)
+  edge_beside k p which other is knows below =
+      let inside = edge_inside which (it.logic.sound.under_way k p is) knows below in
+      let writes = edges_write old.map.atom p.ask which (omega (arith, below, knows.edges.few)) in
+      elim (in_piece o.range.start count (edge_at old.map.atom p.ask which)) [
+        | inl (j, lt, same) ↦ absurd (held_apart k lane (edge_at old.map.atom p.ask which)
+            it.logic.sound other is (writes_lock p.ask writes)
+            (knows.edges_hold (omega (arith, below))) inside.0 inside.1 it.at it.writes it.holds
+            (omega (arith, same)) (omega (arith, same, lt, it.most)))
+        | inr outside ↦ ended_beside (edge_at old.map.atom p.ask which) outside
+      ]
+
+  pub logic_write_ended : IsSound new → (old.broken ≡ false → 0 < count → (block : Block)
+      (value : List ℕ) → (change block value).unsure ≡ false) → Logic new plain ended
   logic_write_ended sound sure = record {
     sound = sound;
     are = rw it.goes.map ended_are;
     sure = λ whole b below. (let was : old.broken ≡ false = sym it.goes.broken_is ∙ whole in
         elim (in_piece o.range.start count b) [
           | inl (j, lt, is) ↦ ap (λ block. block.unsure) (ended_at b j lt is)
-              ∙ sure was (block_in left b) (block_at old.map.atom (plain lane) j)
+              ∙ sure was (omega (arith, lt)) (block_in left b)
+              (block_at old.map.atom (plain lane).bytes j)
           | inr outside ↦ ap (λ block. block.unsure) (ended_beside b outside)
               ∙ it.logic.sure was b (rw it.goes.map at below)
         ]);
     lanes = lanes_still (goes_stays it.goes)
         it.goes.lane_is (λ k other. refl) (still_holds it.goes) (λ was. it.goes.broken_is
-        ∙ was) (λ p is. absurd (cc)) (λ k p is. let knows = it.logic.lanes k p is in
+        ∙ was) (λ p is. absurd (cc)) (λ k other p is. let knows = it.logic.lanes k p is in
         knows_renewed knows (λ reading i below.
         let same = read_beside k p i is reading knows below in
+        (ap (λ block. block.newest) same, ap (λ block. block.unsure) same)) (λ which below.
+        let same = edge_beside k p which other is knows below in
         (ap (λ block. block.newest) same, ap (λ block. block.unsure) same)));
   }
 
@@ -213,7 +234,7 @@ module _ {K : Type 0} {old new : State K} {plain : ℕ → List ℕ} {left : Lis
       let (value, allowed, sealed) = shown.candidates b below atom contains in
       elim (in_piece o.range.start count b) [
         | inl (j, lt, is) ↦
-            let mine = block_at old.map.atom (plain lane) j in
+            let mine = block_at old.map.atom (plain lane).bytes j in
             let now = ended_at b j lt is in
             let own_has : Contains (values_of (block_in ended b)) mine =
             rw now (it.has (block_in left b) mine) in
@@ -226,7 +247,7 @@ module _ {K : Type 0} {old new : State K} {plain : ℕ → List ℕ} {left : Lis
                       let same_j : i ≡ j = omega arith in (
                         value,
                         inl (subst (λ v. Contains (values_of (block_in ended b)) v) (sym (i_value
-                            ∙ ap (λ n. block_at old.map.atom (plain lane) n) same_j)) own_has),
+                            ∙ ap (λ n. block_at old.map.atom (plain lane).bytes n) same_j)) own_has),
                         sealed,
                       )
                   | inr still ↦ (value, inr (k, still), sealed)
@@ -237,7 +258,7 @@ module _ {K : Type 0} {old new : State K} {plain : ℕ → List ℕ} {left : Lis
                     mine,
                     inl own_has,
                     subst (λ n. IsSealed old.map
-                        seals b (block_at old.map.atom (plain lane) n) atom) place (shown.settled
+                        seals b (block_at old.map.atom (plain lane).bytes n) atom) place (shown.settled
                         lane o it.at forced settled b (omega arith) (omega arith) atom contains),
                   )
             ]
@@ -260,18 +281,18 @@ module _ {K : Type 0} {old new : State K} {plain : ℕ → List ℕ} {left : Lis
       → IsNow new plain ended b value
   ended_current b value is_now = elim (in_piece o.range.start count b) [
     | inl (j, lt, is) ↦
-        let now : (block_in ended b).newest ≡ block_at old.map.atom (plain lane) j =
+        let now : (block_in ended b).newest ≡ block_at old.map.atom (plain lane).bytes j =
         ap (λ block. block.newest) (ended_at b j lt is)
-        ∙ it.newest (block_in left b) (block_at old.map.atom (plain lane) j) in
+        ∙ it.newest (block_in left b) (block_at old.map.atom (plain lane).bytes j) in
         let place : b - o.range.start ≡ j = omega arith in
-        let enough : suc (b - o.range.start) * old.map.atom ≤ length (plain lane) =
+        let enough : suc (b - o.range.start) * old.map.atom ≤ length (plain lane).bytes =
         (rw (place, it.are.size) (grind (arith, lt))) in
         let own = own_value lane b value it.logic it.some it.at it.writes it.holds
         (omega arith) (omega arith) enough is_now in
         inr (
           λ k other tried. (let (differ, before) = tried_before k b other tried in
               only_own k j other lt differ (rw is at before)),
-          own ∙ ap (λ n. block_at old.map.atom (plain lane) n) place ∙ sym now,
+          own ∙ ap (λ n. block_at old.map.atom (plain lane).bytes n) place ∙ sym now,
         )
     | inr outside ↦ beside outside is_now
   ]

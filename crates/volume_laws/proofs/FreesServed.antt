@@ -2,6 +2,7 @@
 use Rattle.std.proofs.Common.{Bool, List, None, Option, Some, ap, arith, false, length, refl, subst}
 use Rattle.std.proofs.Common.{suc, sym, ℕ, ◌*◌, ◌-◌, ◌<◌, ◌∙◌, ◌≡◌, ◌≤◌}
 use Rattle.plain_disk.specs.Plain.{Block}
+use Rattle.volume_machine.specs.Edges.{InPlain}
 use Rattle.volume_machine.specs.Seals.{Seals}
 use Rattle.volume_machine.specs.States.{IsLive, State, open_at}
 use Rattle.volume_machine.specs.Working.{Works}
@@ -19,7 +20,7 @@ use Rattle.volume_laws.proofs.Invariant.{writes_stay}
 use Rattle.volume_laws.proofs.Reading.{writes_lock}
 
 -- what the last lane has under way has tried nothing
-worker_untried : {K : Type 0} {state : State K} {plain : ℕ → List ℕ} {left : List Block} {lane : ℕ}
+worker_untried : {K : Type 0} {state : State K} {plain : ℕ → InPlain} {left : List Block} {lane : ℕ}
     {o : Open} → Logic state plain left → 0 < state.map.atom → open_at state.lanes lane ≡ Some o
     → IsWorkers o → TriesNothing state plain lane
 worker_untried {state = state} {plain = plain} {lane = lane} {o = o} logic some at is b value tried =
@@ -30,7 +31,7 @@ worker_untried {state = state} {plain = plain} {lane = lane} {o = o} logic some 
     let size = knows.are.size in
     let enough = tried.tried in
     let none : knows.count ≡ 0 = omega (arith, exact, next) in
-    let empty : length (plain lane) ≡ 0 = size ∙ ap (λ n. n * state.map.atom) none ∙ omega arith in
+    let empty : length (plain lane).bytes ≡ 0 = size ∙ ap (λ n. n * state.map.atom) none ∙ omega arith in
     let bound : 1 * state.map.atom ≤ suc (b - tried.o.range.start) * state.map.atom = grind arith in
     omega (arith, enough, empty, some, bound)
 
@@ -97,7 +98,7 @@ module _ {K : Type 0} {mid new : State K} {lane : ℕ} (goes : Ends mid new lane
       live_before : (b : ℕ) → IsLive new b → IsLive mid b
       live_before b live = live_back b (goes_stays goes) live
 
-module _ {K P Q : Type 0} {mid new : State K} {seals : Seals} {plain : ℕ → List ℕ}
+module _ {K P Q : Type 0} {mid new : State K} {seals : Seals} {plain : ℕ → InPlain}
     {left : List Block} {lane : ℕ} (here : Here P Q mid seals plain left)
     (goes : Ends mid new lane) (rests : new.disk ≡ mid.disk) (last : suc lane ≡ length mid.lanes)
     (workers : (o : Open) → open_at mid.lanes lane ≡ Some o → IsWorkers o)
@@ -121,7 +122,7 @@ module _ {K P Q : Type 0} {mid new : State K} {seals : Seals} {plain : ℕ → L
       (λ whole. (sym goes.broken_is ∙ whole, same.current)) same.candidates)
 
 -- ---- nothing but the lane's operation changes
-module _ {K P Q : Type 0} {old new : State K} {seals : Seals} {plain : ℕ → List ℕ}
+module _ {K P Q : Type 0} {old new : State K} {seals : Seals} {plain : ℕ → InPlain}
     {left : List Block} (here : Here P Q old seals plain left) where
   still_here : {is_broken : Bool} (frees : Frees old new is_broken old.work)
       → is_broken ≡ old.broken → new.disk ≡ old.disk

@@ -5,6 +5,7 @@ use Rattle.crash_laws.specs.HotZones.Zones.{ShowsZone}
 use Rattle.plain_disk.specs.Plain.{Block}
 use Rattle.sector_disk.specs.DiskViews.Views.{IsOutside, IsUnchanged, View}
 use Rattle.segment_map.specs.declared.Side.TheVariants.{Old}
+use Rattle.volume_machine.specs.Edges.{InPlain}
 use Rattle.volume_machine.specs.Pieces.{place_in}
 use Rattle.volume_machine.specs.Seals.{Seals}
 use Rattle.volume_machine.specs.States.{State}
@@ -111,7 +112,7 @@ module _ {K : Type 0} {old new : State K} (work : Work) (up : GivesUp old new wo
             omega (arith, count, from, to)))
       ]
 
-module _ {K P Q : Type 0} {old new : State K} {seals : Seals} {plain : ℕ → List ℕ}
+module _ {K P Q : Type 0} {old new : State K} {seals : Seals} {plain : ℕ → InPlain}
     {left : List Block} (here : Here P Q old seals plain left) (work : Work)
     (up : GivesUp old new work) where
   abbrev rest : Work
@@ -209,14 +210,14 @@ module _ {K P Q : Type 0} {old new : State K} {seals : Seals} {plain : ℕ → L
       (λ next is whole. let same : next ≡ rest = (let at = on.work in cc) in
       rw same (omega arith))
 
-pub misses_part_served : {K P Q : Type 0} {old new : State K} {seals : Seals} {plain : ℕ → List ℕ}
+pub misses_part_served : {K P Q : Type 0} {old new : State K} {seals : Seals} {plain : ℕ → InPlain}
     {left : List Block} → Here P Q old seals plain left → MissesPart old new
     → Here P Q new seals plain left
 misses_part_served here it =
     given_up_served here it.work it.gives_up (moves_by_read it.call here.values)
 
 pub hindered_served : {K P Q : Type 0} {reading : Reading} {old new : State K} {seals : Seals}
-    {plain : ℕ → List ℕ} {left : List Block} {cause : Hindrance} → Here P Q old seals plain left
+    {plain : ℕ → InPlain} {left : List Block} {cause : Hindrance} → Here P Q old seals plain left
     → IsHindered reading seals old new cause
     → Here P Q new seals plain left
 hindered_served here it =

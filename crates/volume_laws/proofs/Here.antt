@@ -9,6 +9,7 @@ use Rattle.sector_disk.specs.DiskViews.Views.{View, view_of_bytes, view_of_cells
 use Rattle.sector_disk.specs.Geometry.{IsAtom}
 use Rattle.sector_disk.specs.Steps.{Told}
 use Rattle.segment_map.specs.declared.map.Piece.{Piece}
+use Rattle.volume_machine.specs.Edges.{InPlain}
 use Rattle.volume_machine.specs.Pieces.{IsPieceOf, place_in, place_of}
 use Rattle.volume_machine.specs.Seals.{AreLawful, Seals}
 use Rattle.volume_machine.specs.Sound.{AreApart}
@@ -31,7 +32,7 @@ some_atom atom (inr is) = omega arith
 -- what holds at a moment: the operations', and the disk's, by its bytes and, under a premise, by
 -- its tables where it tells them; and, under another, that it tells an atom's bytes for each atom
 -- while nothing has failed, and as many cells
-pub record Here {K : Type 0} (P Q : Type 0) (state : State K) (seals : Seals) (plain : ℕ → List ℕ)
+pub record Here {K : Type 0} (P Q : Type 0) (state : State K) (seals : Seals) (plain : ℕ → InPlain)
     (left : List Block) : Type 0 where
   pub logic : Logic state plain left
   pub lawful : AreLawful state.map.atom seals
@@ -48,7 +49,7 @@ pub record Here {K : Type 0} (P Q : Type 0) (state : State K) (seals : Seals) (p
   pub cells : Q → P → (told : Told) → state.disk.told ≡ Some told
       → length told.now ≡ state.disk.atoms
 
-pub positive : {K P Q : Type 0} {state : State K} {seals : Seals} {plain : ℕ → List ℕ}
+pub positive : {K P Q : Type 0} {state : State K} {seals : Seals} {plain : ℕ → InPlain}
     {left : List Block} → Here P Q state seals plain left → 0 < state.map.atom
 positive {state = state} here = some_atom state.map.atom here.logic.sound.fits.known
 
@@ -65,7 +66,7 @@ pub record Moves (P : Type 0) (fine : Bool) (atom : ℕ) (bytes : List ℕ) (old
       × Rel (view_of_cells before.now) (view_of_cells told.now)
 
 pub here_after : {K P Q : Type 0} {fine : Bool} {old new : State K} {seals : Seals}
-    {plain now : ℕ → List ℕ} {left next : List Block} {Rel : View → View → Type 0} →
+    {plain now : ℕ → InPlain} {left next : List Block} {Rel : View → View → Type 0} →
     (here : Here P Q old seals plain left) → new.map ≡ old.map → Works new
     → (new.broken ≡ false → (old.broken ≡ false) × (fine ≡ true)) → Logic new now next
     → Moves P fine old.map.atom here.bytes old.disk new.disk Rel →
@@ -164,7 +165,7 @@ module _ {P : Type 0} {atom : ℕ} {bytes : List ℕ} {old new : Device} where
       failed_call call values) call.atoms (λ premise told is. table-thinned old new told call is)
 
 -- a piece lies within the disk's bytes and tables
-module _ {K P Q : Type 0} {state : State K} {seals : Seals} {plain : ℕ → List ℕ} {left : List Block}
+module _ {K P Q : Type 0} {state : State K} {seals : Seals} {plain : ℕ → InPlain} {left : List Block}
     (o : Open) {piece : Piece} (here : Here P Q state seals plain left)
     (was : state.broken ≡ false) (next : IsPieceOf state.map o piece) (live : AreLive state o)
     (begun : o.range.start ≤ o.next) where

@@ -1,6 +1,7 @@
 -- What holds between the events of a run: of the operations under way, and of what the disk holds.
-use Rattle.std.proofs.Common.{Bool, Contains, List, Option, Some, false, inl, inr, length, refl}
-use Rattle.std.proofs.Common.{subst, sym, true, ℕ, ◌*◌, ◌+◌, ◌-◌, ◌<◌, ◌∙◌, ◌≡◌, ◌≢◌, ◌≤◌}
+use Rattle.std.proofs.Common.{Bool, Contains, List, Option, Some, [], ap, false, inl, inr, length}
+use Rattle.std.proofs.Common.{refl, slice_index_or, subst, sym, true, ℕ, ◌*◌, ◌+◌, ◌-◌, ◌<◌, ◌∙◌}
+use Rattle.std.proofs.Common.{◌≡◌, ◌≢◌, ◌≤◌}
 use Rattle.std.proofs.lemmas.Bool.{cases_Bool as either, cases_eq as same_or_not}
 use Rattle.crash_laws.proofs.HotZones.ZoneFrames.{zone_kept}
 use Rattle.crash_laws.specs.HotZones.Zones.{ShowsZone}
@@ -9,12 +10,14 @@ use Rattle.range_lock.specs.declared.Entry.{Entry}
 use Rattle.sector_disk.specs.DiskViews.Parts.{AreBlocks, block_at}
 use Rattle.sector_disk.specs.DiskViews.Views.{IsThinned, View}
 use Rattle.volume_machine.specs.Asks.{IsForced, IsRead, IsWrite}
+use Rattle.volume_machine.specs.Edges.{InPlain, edge_at, edges_of}
 use Rattle.volume_machine.specs.Pieces.{place_in}
 use Rattle.volume_machine.specs.Seals.{Seals}
 use Rattle.volume_machine.specs.Sound.{IsSound}
 use Rattle.volume_machine.specs.States.{IsGoverned, IsLive, LaneBecomes, State, open_at}
 use Rattle.volume_machine.specs.Steps.{Goes, Holds}
 use Rattle.volume_machine.specs.Works.{Work}
+use Rattle.volume_machine.specs.declared.ask.Ask.{Ask}
 use Rattle.volume_machine.specs.declared.open.Open.{Open}
 use Rattle.volume_laws.specs.Contents.{AreBlocksOf, IsAllowedAt, IsNow, IsSealed, IsTriedBy}
 use Rattle.volume_laws.specs.Contents.{block_in}
@@ -27,23 +30,35 @@ use Rattle.volume_machine.specs.Works.{Part, wanted, fetched}
 abbrev pub IsRight : List Block → ℕ → List ℕ → Type 0
 IsRight left b value = (value ≡ (block_in left b).newest) × ((block_in left b).unsure ≡ false)
 
+-- the edges that an operation has read hold what the plain disk's blocks do, and all were read before
+-- it tried a block
+pub record KnowsEdges (atom : ℕ) (left : List Block) (ask : Ask) (read count : ℕ)
+    (edges : List (List ℕ)) : Type 0 where
+  pub size : length edges ≡ read
+  pub few : read ≤ length (edges_of atom ask)
+  pub all : IsWrite ask → 0 < count → read ≡ length (edges_of atom ask)
+  pub are : (which : ℕ) → which < read
+      → IsRight left (edge_at atom ask which) (slice_index_or edges which [])
+
 -- what an operation under way has read, or tried to write: so many blocks
-pub record LaneKnows {K : Type 0} (state : State K) (plain : ℕ → List ℕ) (left : List Block)
+pub record LaneKnows {K : Type 0} (state : State K) (plain : ℕ → InPlain) (left : List Block)
     (lane : ℕ) (o : Open) : Type 0 where
   pub count : ℕ
-  pub are : AreBlocks state.map.atom count (plain lane)
+  pub are : AreBlocks state.map.atom count (plain lane).bytes
   pub least : o.next ≤ o.range.start + count
   pub most : o.range.start + count ≤ o.range.end
   pub exact : o.failed ≡ false → o.range.start + count ≡ o.next
   pub holds : 0 < count → Holds state lane
   pub reads : IsRead o.ask → (k : ℕ) → k < count
-      → IsRight left (o.range.start + k) (block_at state.map.atom (plain lane) k)
+      → IsRight left (o.range.start + k) (block_at state.map.atom (plain lane).bytes k)
   pub beside : (b : ℕ) → o.range.start ≤ b → b < o.range.start + count → IsGoverned state b → ⊥
   pub kept : o.settled ≡ true → o.next ≡ o.range.end
-  pub breaks : IsWrite o.ask → o.failed ≡ true → state.broken ≡ true
+  pub breaks : IsWrite o.ask → o.failed ≡ true → 0 < count → state.broken ≡ true
+  pub edges : KnowsEdges state.map.atom left o.ask o.fetched count (plain lane).edges
+  pub edges_hold : 0 < o.fetched → Holds state lane
 
 -- what holds of the operations
-pub record Logic {K : Type 0} (state : State K) (plain : ℕ → List ℕ) (left : List Block) : Type 0
+pub record Logic {K : Type 0} (state : State K) (plain : ℕ → InPlain) (left : List Block) : Type 0
   where
     pub sound : IsSound state
     pub are : AreBlocksOf state.map left
@@ -79,7 +94,7 @@ ShowsWork state seals left view = (work : Work) → state.work ≡ Some work
 
 -- what holds of the disk: while nothing has failed it stands for what each block holds; each
 -- candidate is an allowed value; and of a write that is settled its own values alone are left
-pub record Shown {K : Type 0} (state : State K) (seals : Seals) (plain : ℕ → List ℕ)
+pub record Shown {K : Type 0} (state : State K) (seals : Seals) (plain : ℕ → InPlain)
     (left : List Block) (view : View) : Type 0 where
   pub current : state.broken ≡ false → (b : ℕ) → IsLive state b → (value : List ℕ) × IsNow state
       plain left b value × IsSealed state.map seals b value (view.current (place_in state.map b))
@@ -89,35 +104,37 @@ pub record Shown {K : Type 0} (state : State K) (seals : Seals) (plain : ℕ →
   pub settled : (lane : ℕ) (o : Open) → open_at state.lanes lane ≡ Some o
       → IsForced o.ask → o.settled ≡ true → (b : ℕ) → o.range.start ≤ b
       → b < o.range.end → (atom : List ℕ) → Contains (view.candidates (place_in state.map b)) atom
-      → IsSealed state.map seals b (block_at state.map.atom (plain lane) (b - o.range.start)) atom
+      → IsSealed state.map seals b (block_at state.map.atom (plain lane).bytes (b - o.range.start)) atom
   pub zone : ShowsWork state seals left view
 
 -- between two states the same blocks were tried by the same lanes
-pub record KeepsTried {K : Type 0} (old : State K) (plain : ℕ → List ℕ) (new : State K)
-    (now : ℕ → List ℕ) : Type 0 where
+pub record KeepsTried {K : Type 0} (old : State K) (plain : ℕ → InPlain) (new : State K)
+    (now : ℕ → InPlain) : Type 0 where
   pub kept : (lane b : ℕ) (value : List ℕ) → IsTriedBy old plain lane b value
       → IsTriedBy new now lane b value
   pub back : (lane b : ℕ) (value : List ℕ) → IsTriedBy new now lane b value
       → IsTriedBy old plain lane b value
 
 -- and no write became settled
-pub record KeepsWrites {K : Type 0} (old : State K) (plain : ℕ → List ℕ) (new : State K)
-    (now : ℕ → List ℕ) : Type 0 where
+pub record KeepsWrites {K : Type 0} (old : State K) (plain : ℕ → InPlain) (new : State K)
+    (now : ℕ → InPlain) : Type 0 where
   pub tried : KeepsTried old plain new now
   pub settled : (lane : ℕ) (o : Open) → open_at new.lanes lane ≡ Some o → IsForced o.ask → o.settled
       ≡ true → (before : Open) × (open_at old.lanes lane ≡ Some before) × (before.ask ≡ o.ask)
-      × (before.range ≡ o.range) × (before.settled ≡ true) × (now lane ≡ plain lane)
+      × (before.range ≡ o.range) × (before.settled ≡ true)
+      × ((now lane).bytes ≡ (plain lane).bytes)
 
 -- this lane has tried nothing
-abbrev pub TriesNothing : {K : Type 0} → State K → (ℕ → List ℕ) → ℕ → Type 0
+abbrev pub TriesNothing : {K : Type 0} → State K → (ℕ → InPlain) → ℕ → Type 0
 TriesNothing state plain lane = (b : ℕ) (value : List ℕ) → IsTriedBy state plain lane b value → ⊥
 
 -- what a lane has tried stays where its operation keeps its ask and its range
-module _ {K : Type 0} {old new : State K} {plain now : ℕ → List ℕ} {lane b : ℕ} {value : List ℕ}
+module _ {K : Type 0} {old new : State K} {plain now : ℕ → InPlain} {lane b : ℕ} {value : List ℕ}
     (map : new.map ≡ old.map) where
   pub tried_by : {o next : Open} → open_at old.lanes lane ≡ Some o
       → open_at new.lanes lane ≡ Some next → next.ask ≡ o.ask → next.range ≡ o.range
-      → now lane ≡ plain lane → IsTriedBy old plain lane b value → IsTriedBy new now lane b value
+      → (now lane).bytes ≡ (plain lane).bytes → IsTriedBy old plain lane b value
+      → IsTriedBy new now lane b value
   tried_by {o = o} {next = next} is is_next ask range known tried =
       let same : tried.o ≡ o = (cc) in record {
         o = next;
@@ -130,7 +147,8 @@ module _ {K : Type 0} {old new : State K} {plain now : ℕ → List ℕ} {lane b
 
   pub tried_goes : open_at new.lanes lane ≡ open_at old.lanes lane → now lane ≡ plain lane
       → IsTriedBy old plain lane b value → IsTriedBy new now lane b value
-  tried_goes same known tried = tried_by tried.is (same ∙ tried.is) refl refl known tried
+  tried_goes same known tried = tried_by tried.is (same ∙ tried.is) refl refl
+      (ap (λ p. p.bytes) known) tried
 
 -- blocks and their places stay, and which of them the zone at hand knows
 pub record Stays {K : Type 0} (old new : State K) : Type 0 where
@@ -152,7 +170,7 @@ module _ {K : Type 0} {old new : State K} where
   }
 
 -- one lane's operation changes, and no other
-module _ {K : Type 0} {old new : State K} {plain now : ℕ → List ℕ} {lane : ℕ} {next : Option Open}
+module _ {K : Type 0} {old new : State K} {plain now : ℕ → InPlain} {lane : ℕ} {next : Option Open}
     (map : new.map ≡ old.map) (lanes : LaneBecomes old.lanes new.lanes lane next)
     (known : (k : ℕ) → k ≢ lane → now k ≡ plain k) where
   tried_stays : ((b : ℕ) (value : List ℕ) → IsTriedBy old plain lane b value
@@ -171,20 +189,28 @@ module _ {K : Type 0} {old new : State K} {plain now : ℕ → List ℕ} {lane :
 
   -- it goes on with what it asked for and knows
   pub tried_go_on : {o p : Open} → open_at old.lanes lane ≡ Some o → next ≡ Some p
-      → p.ask ≡ o.ask → p.range ≡ o.range → now lane ≡ plain lane → KeepsTried old plain new now
+      → p.ask ≡ o.ask → p.range ≡ o.range → (now lane).bytes ≡ (plain lane).bytes
+      → KeepsTried old plain new now
   tried_go_on is becomes ask range same = tried_stays
       (λ b value. tried_by map is (lanes.own ∙ becomes) ask range same)
       (λ b value. tried_by (sym map) (lanes.own ∙ becomes) is (sym ask) (sym range) (sym same))
 
   pub writes_go_on : {o p : Open} → open_at old.lanes lane ≡ Some o → next ≡ Some p
-      → p.ask ≡ o.ask → p.range ≡ o.range → p.settled ≡ o.settled → now lane ≡ plain lane
-      → KeepsWrites old plain new now
+      → p.ask ≡ o.ask → p.range ≡ o.range → p.settled ≡ o.settled
+      → (now lane).bytes ≡ (plain lane).bytes → KeepsWrites old plain new now
   writes_go_on {o = o} {p = p} is becomes ask range settled knows = record {
     tried = tried_go_on is becomes ask range knows;
     settled = λ k one at forced is_settled. elim (same_or_not k lane) [
       | inl same ↦ rw same (let e : one ≡ p = cc in
           (o, is, rw e (sym ask), rw e (sym range), sym settled ∙ rw (← e) is_settled, knows))
-      | inr other ↦ (one, sym (lanes.others k other) ∙ at, refl, refl, is_settled, known k other)
+      | inr other ↦ (
+        one,
+        sym (lanes.others k other) ∙ at,
+        refl,
+        refl,
+        is_settled,
+        ap (λ p. p.bytes) (known k other),
+      )
     ];
   }
 
@@ -200,11 +226,18 @@ module _ {K : Type 0} {old new : State K} {plain now : ℕ → List ℕ} {lane :
     tried = tried_stay before after;
     settled = λ k one at forced is_settled. elim (same_or_not k lane) [
       | inl same ↦ absurd (unsettled one (cc) forced is_settled)
-      | inr other ↦ (one, sym (lanes.others k other) ∙ at, refl, refl, is_settled, known k other)
+      | inr other ↦ (
+        one,
+        sym (lanes.others k other) ∙ at,
+        refl,
+        refl,
+        is_settled,
+        ap (λ p. p.bytes) (known k other),
+      )
     ];
   }
 
-module _ {K : Type 0} {old new : State K} {plain now : ℕ → List ℕ}
+module _ {K : Type 0} {old new : State K} {plain now : ℕ → InPlain}
     (keeps : KeepsTried old plain new now) (left : List Block) (b : ℕ) (value : List ℕ) where
   pub now_kept : IsNow old plain left b value → IsNow new now left b value
   now_kept (inl (lane, tried)) = inl (lane, keeps.kept lane b value tried)
@@ -216,7 +249,7 @@ module _ {K : Type 0} {old new : State K} {plain now : ℕ → List ℕ}
   allowed_kept (inr (lane, tried)) = inr (lane, keeps.kept lane b value tried)
 
 -- what the disk shows, said of the places that its blocks had before
-pub shown_by : {K : Type 0} {old new : State K} {now : ℕ → List ℕ} {left : List Block}
+pub shown_by : {K : Type 0} {old new : State K} {now : ℕ → InPlain} {left : List Block}
     {seals : Seals} {next : View} → Stays old new
     → (new.broken ≡ false → (b : ℕ) → IsLive old b → (value : List ℕ) × IsNow new now left b value
     × IsSealed old.map seals b value (next.current (place_in old.map b))) → ((b : ℕ)
@@ -225,7 +258,7 @@ pub shown_by : {K : Type 0} {old new : State K} {now : ℕ → List ℕ} {left :
     → ((lane : ℕ) (o : Open) → open_at new.lanes lane ≡ Some o
     → IsForced o.ask → o.settled ≡ true → (b : ℕ) → o.range.start ≤ b
     → b < o.range.end → (atom : List ℕ) → Contains (next.candidates (place_in old.map b)) atom
-    → IsSealed old.map seals b (block_at old.map.atom (now lane) (b - o.range.start)) atom)
+    → IsSealed old.map seals b (block_at old.map.atom (now lane).bytes (b - o.range.start)) atom)
     → ((work : Work) → old.work ≡ Some work
     → ShowsAtHand old.map.atom seals left work new.broken next) → Shown new seals now left next
 shown_by {new = new} {now = now} {left = left} {seals = seals} {next = next} stays current
@@ -241,7 +274,7 @@ shown_by {new = new} {now = now} {left = left} {seals = seals} {next = next} sta
       zone = λ work is. rw stays.map (zone work (sym stays.work ∙ is));
     }
 
-module _ {K : Type 0} {old new : State K} {plain now : ℕ → List ℕ} {left : List Block}
+module _ {K : Type 0} {old new : State K} {plain now : ℕ → InPlain} {left : List Block}
     (stays : Stays old new) where
   -- what the disk shows stays where no write was tried, finished or settled
   pub shown_kept : {seals : Seals} {view next : View} → KeepsWrites old plain new now → (new.broken
@@ -280,20 +313,23 @@ module _ {K : Type 0} {old new : State K} {plain now : ℕ → List ℕ} {left :
     holds = λ some. holds (knows.holds some);
     reads = λ is k below. rw (stays.map, known) (knows.reads is k below);
     kept = knows.kept;
-    breaks = λ writes failed. broken (knows.breaks writes failed);
+    breaks = λ writes failed some. broken (knows.breaks writes failed some);
     beside = λ b from to of. knows.beside b from to (governed_back b stays of);
+    edges = rw (stays.map, known) knows.edges;
+    edges_hold = λ some. holds (knows.edges_hold some);
   }
 
   pub lanes_still : {lane : ℕ} {next : Option Open} → LaneBecomes old.lanes new.lanes lane next
       → ((k : ℕ) → k ≢ lane → now k ≡ plain k) → ((k : ℕ) → k ≢ lane → Holds old k → Holds new k)
       → (old.broken ≡ true → new.broken ≡ true)
       → ((o : Open) → next ≡ Some o → LaneKnows new now left lane o)
-      → ((k : ℕ) (o : Open) → open_at old.lanes k ≡ Some o → LaneKnows old plain left k o)
+      → ((k : ℕ) → k ≢ lane → (o : Open) → open_at old.lanes k ≡ Some o
+      → LaneKnows old plain left k o)
       → (k : ℕ) (o : Open) → open_at new.lanes k ≡ Some o → LaneKnows new now left k o
   lanes_still {lane = lane} lanes known holds broken own all k o is = elim (same_or_not k lane) [
     | inl same ↦ rw same (own o (cc))
     | inr other ↦ knows_still (known k other) (holds k other) broken
-        (all k o (sym (lanes.others k other) ∙ is))
+        (all k other o (sym (lanes.others k other) ∙ is))
   ]
 
 -- an event of one lane
@@ -308,7 +344,7 @@ module _ {K : Type 0} {old new : State K} {lane : ℕ} {entries : List Entry} {n
   ]
 
   -- what holds of the operations goes on to hold where it does of this lane's
-  pub logic_kept : {plain now : ℕ → List ℕ} {left : List Block} → IsSound new
+  pub logic_kept : {plain now : ℕ → InPlain} {left : List Block} → IsSound new
       → ((k : ℕ) → k ≢ lane → now k ≡ plain k) → ((k : ℕ) → k ≢ lane → Holds old k → Holds new k)
       → ((o : Open) → next ≡ Some o → LaneKnows new now left lane o) → Logic old plain left
       → Logic new now left
@@ -317,5 +353,6 @@ module _ {K : Type 0} {old new : State K} {lane : ℕ} {entries : List Entry} {n
     are = rw goes.map logic.are;
     sure = λ whole b below. logic.sure (unbroken (sym goes.broken_is ∙ whole)) b
         (rw goes.map at below);
-    lanes = lanes_still (goes_stays goes) goes.lane_is known holds still_broken own logic.lanes;
+    lanes = lanes_still (goes_stays goes) goes.lane_is known holds still_broken own
+        (λ k other. logic.lanes k);
   }

@@ -7,10 +7,12 @@ pub mod CallsDated
 pub mod DatedKept
 pub mod DeedsServed
 pub mod DeviceErrors
+pub mod EdgedText
 pub mod EndsServed
 pub mod EventsServed
 pub mod Executions
 pub mod FailedPieces
+pub mod Fetching
 pub mod Faultless
 pub mod FaultsServed
 pub mod FinishServed

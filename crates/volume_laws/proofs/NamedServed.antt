@@ -7,6 +7,7 @@ use Rattle.crash_laws.specs.HotZones.Zones.{Reaches, Resilience, checksum, datas
 use Rattle.crash_laws.specs.HotZones.Zones.{ShowsZone}
 use Rattle.plain_disk.specs.Plain.{Block}
 use Rattle.sector_disk.specs.DiskViews.Views.{View}
+use Rattle.volume_machine.specs.Edges.{InPlain}
 use Rattle.volume_machine.specs.Seals.{Seals}
 use Rattle.volume_machine.specs.States.{IsLive, State}
 use Rattle.volume_machine.specs.Working.{IsWorking}
@@ -163,7 +164,7 @@ module _ (opened moved : Header (List ℕ)) where
   }
   shows_named atom layout zone texts (turning stage) view is shows = absurd is
 
-module _ {K P Q : Type 0} {old : State K} {seals : Seals} {plain : ℕ → List ℕ} {left : List Block}
+module _ {K P Q : Type 0} {old : State K} {seals : Seals} {plain : ℕ → InPlain} {left : List Block}
     (here : Here P Q old seals plain left) (work : Work) (is : old.work ≡ Some work)
     (was : old.broken ≡ false) where
   first_named : (opened moved : Header (List ℕ)) → IsFirst work.phase
@@ -208,7 +209,7 @@ module _ {K P Q : Type 0} {old : State K} {seals : Seals} {plain : ℕ → List 
   ]
 
 pub steps_served : {K P Q : Type 0} {reading : Reading} {old new : State K} {seals : Seals}
-    {plain : ℕ → List ℕ} {left : List Block} → Here P Q old seals plain left → Q
+    {plain : ℕ → InPlain} {left : List Block} → Here P Q old seals plain left → Q
     → StepsOn reading seals old new → Here P Q new seals plain left
 steps_served {old = old} here all it =
     let next = named it.work it.opened it.moved in
@@ -226,7 +227,7 @@ steps_served {old = old} here all it =
     })
 
 -- ---- the finish
-module _ {K P Q : Type 0} {reading : Reading} {old : State K} {seals : Seals} {plain : ℕ → List ℕ}
+module _ {K P Q : Type 0} {reading : Reading} {old : State K} {seals : Seals} {plain : ℕ → InPlain}
     {left : List Block} (here : Here P Q old seals plain left) (layout : Layout)
     (header next : Header (List ℕ)) (areas : List Area)
     (may : MayConclude reading old layout header next areas) where
@@ -276,7 +277,7 @@ module _ {K P Q : Type 0} {reading : Reading} {old : State K} {seals : Seals} {p
       })
 
 pub concludes_served : {K P Q : Type 0} {reading : Reading} {old new : State K} {seals : Seals}
-    {plain : ℕ → List ℕ} {left : List Block} → Here P Q old seals plain left → Q
+    {plain : ℕ → InPlain} {left : List Block} → Here P Q old seals plain left → Q
     → Concludes reading old new → Here P Q new seals plain left
 concludes_served {old = old} here all it =
     let on = it.goes in
@@ -294,7 +295,7 @@ concludes_served {old = old} here all it =
     })
 
 pub conclusion_fails_served : {K P Q : Type 0} {reading : Reading} {old new : State K}
-    {seals : Seals} {plain : ℕ → List ℕ} {left : List Block} → Here P Q old seals plain left
+    {seals : Seals} {plain : ℕ → InPlain} {left : List Block} → Here P Q old seals plain left
     → MissesConclusion reading old new → Here P Q new seals plain left
 conclusion_fails_served {old = old} {new = new} {seals = seals} {left = left} here it =
     let closed_work = closing it.layout it.header it.next begun it.areas in

@@ -5,7 +5,8 @@ use Rattle.range_lock.specs.Locks.{IsStandingOf}
 use Rattle.range_lock.specs.declared.Standing.TheVariants.{Held}
 use Rattle.volume_machine.specs.Asks.{entry_of, has_lock}
 use Rattle.volume_machine.specs.Effects.{entered, entries_after}
-use Rattle.volume_machine.specs.Events.{Event, Outcome, admits, asks, finishes, lane_of, reads}
+use Rattle.volume_machine.specs.Events.{Event, Outcome, admits, asks, fetches, finishes, lane_of}
+use Rattle.volume_machine.specs.Events.{reads}
 use Rattle.volume_machine.specs.Events.{refused, settles, writes}
 use Rattle.volume_machine.specs.States.{State, open_at}
 use Rattle.volume_machine.specs.Steps.{Holds, Meets, Can, Step}
@@ -64,6 +65,7 @@ unfolding Can
 can_left old new (admits lane session ask) left can = rw left.own can
 can_left old new (asks lane) left can = rw left.own can
 can_left old new (reads lane len) left can = (rw (left.own, left.map) can.0, left.holds can.1)
+can_left old new (fetches lane which) left can = (rw (left.own, left.map) can.0, left.holds can.1)
 can_left old new (writes lane bytes) left can = (rw (left.own, left.map) can.0, left.holds can.1)
 can_left old new (settles lane) left can = rw left.own can
 can_left old new (finishes lane) left can = (rw left.own can.0, left.holds can.1)

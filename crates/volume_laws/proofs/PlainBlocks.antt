@@ -48,12 +48,12 @@ even_newest atom (block ∷ blocks) sized = rw (
 
 -- the newest values as one text
 module _ (atom : ℕ) (blocks : List Block) (sized : AreSized atom blocks) where
-  length-newest_bytes : length (newest_bytes blocks) ≡ length blocks * atom
+  pub length-newest_bytes : length (newest_bytes blocks) ≡ length blocks * atom
   unfolding newest_bytes
   length-newest_bytes = length-joined atom (length blocks) (map (λ block. block.newest) blocks)
       (even_newest atom blocks sized)
 
-  block_at-newest_bytes : (b : ℕ) → b < length blocks
+  pub block_at-newest_bytes : (b : ℕ) → b < length blocks
       → block_at atom (newest_bytes blocks) b ≡ (block_in blocks b).newest
   unfolding newest_bytes
   block_at-newest_bytes b inside =

@@ -1,6 +1,6 @@
 -- Pieces that are read, and reads that are answered: what holds between events goes on to hold.
-use Rattle.std.proofs.Common.{Bool, List, Option, Some, ap, arith, false, inl, inr, refl, subst}
-use Rattle.std.proofs.Common.{sym, true, ℕ, ◌++◌, ◌+◌, ◌-◌, ◌<◌, ◌∙◌, ◌≡◌, ◌≢◌, ◌≤◌}
+use Rattle.std.proofs.Common.{Bool, List, Option, Some, ap, arith, false, inl, inr, length, refl}
+use Rattle.std.proofs.Common.{subst, suc, sym, true, ℕ, ◌*◌, ◌++◌, ◌+◌, ◌-◌, ◌<◌, ◌∙◌, ◌≡◌, ◌≢◌, ◌≤◌, ◌⊎◌}
 use Rattle.std.proofs.lemmas.Bool.{cases_lt, cases_eq as same_or_not}
 use Rattle.plain_disk.specs.Plain.{Block}
 use Rattle.sector_disk.proofs.DiskViews.Blockwise.{block_at-behind, block_at-front, blocks_joined}
@@ -12,6 +12,7 @@ use Rattle.segment_map.specs.declared.map.Map.{Map}
 use Rattle.segment_map.specs.declared.map.Piece.{Piece}
 use Rattle.volume_machine.specs.Asks.{IsForced, IsRead, IsWrite, entry_of, has_lock, kind_of}
 use Rattle.volume_machine.specs.Asks.{range_of}
+use Rattle.volume_machine.specs.Edges.{InPlain, edges_of, with_bytes}
 use Rattle.volume_machine.specs.Pieces.{ArePieceBytes, IsPieceOf, failing, moved, place_in}
 use Rattle.volume_machine.specs.Pieces.{place_of, side_in}
 use Rattle.volume_machine.specs.Runs.{plain_piece, with_plain}
@@ -25,7 +26,7 @@ use Rattle.volume_machine.specs.{declared.ask.Ask.TheVariants.Write, declared.op
 use Rattle.volume_machine.proofs.Locking.{holders-apart}
 use Rattle.volume_laws.specs.Contents.{IsTriedBy, block_in}
 use Rattle.volume_laws.proofs.Admits.{plain-other, plain-own}
-use Rattle.volume_laws.proofs.Invariant.{IsRight, KeepsWrites, LaneKnows, Logic, Shown}
+use Rattle.volume_laws.proofs.Invariant.{IsRight, KeepsWrites, KnowsEdges, LaneKnows, Logic, Shown}
 use Rattle.volume_laws.proofs.Invariant.{TriesNothing, goes_stays, governed_back, knows_still}
 use Rattle.volume_laws.proofs.Invariant.{logic_kept, shown_kept, still_broken, writes_go_on}
 use Rattle.volume_laws.proofs.Invariant.{writes_stay}
@@ -75,7 +76,7 @@ held_apart {state = state} lane other b {o = o} {p = p} sound differ is has hold
     ((b, ((from, to), (others_from, others_to))), inr (writes_alone p.ask writes)))
 
 -- a block that another lane has tried isn't one that this lane holds
-pub tried_apart : {K : Type 0} {state : State K} {plain : ℕ → List ℕ} {left : List Block}
+pub tried_apart : {K : Type 0} {state : State K} {plain : ℕ → InPlain} {left : List Block}
     (lane other b : ℕ) {value : List ℕ} {o : Open} → Logic state plain left → 0 < state.map.atom
     → lane ≢ other → open_at state.lanes lane ≡ Some o → has_lock o.ask ≡ true → Holds state lane
     → o.range.start ≤ b → b < o.range.end → IsTriedBy state plain other b value → ⊥
@@ -85,6 +86,22 @@ tried_apart lane other b logic some differ is has holds from to tried =
     grind (arith, knows.are.size, tried.tried, some) in
     held_apart lane other b logic.sound differ is has holds from to tried.is tried.writes
     (knows.holds (omega arith)) tried.begun (omega arith)
+
+-- an operation that hasn't failed and has made no piece has tried nothing
+abbrev pub HasMadeNothing : Open → Type 0
+HasMadeNothing o = (o.next ≡ o.range.start) × (o.failed ≡ false)
+
+pub tries_nothing : {K : Type 0} {state : State K} {plain : ℕ → InPlain} {left : List Block}
+    {lane : ℕ} {o : Open} → Logic state plain left → 0 < state.map.atom
+    → open_at state.lanes lane ≡ Some o → HasMadeNothing o → TriesNothing state plain lane
+tries_nothing {state = state} {plain = plain} {lane = lane} {o = o} logic some at (first, unfailed) b
+    value tried =
+    let knows = logic.lanes lane o at in
+    let none : knows.count ≡ 0 = omega (arith, knows.exact unfailed, first) in
+    let empty : length (plain lane).bytes ≡ 0 =
+    knows.are.size ∙ ap (λ n. n * state.map.atom) none ∙ omega arith in
+    let bound : 1 * state.map.atom ≤ suc (b - tried.o.range.start) * state.map.atom = grind arith in
+    omega (arith, tried.tried, empty, some, bound)
 
 -- the blocks of a piece are on its side, in places one after the other
 module _ {map : Map} (o : Open) {piece : Piece} (next : IsPieceOf map o piece) where
@@ -120,7 +137,7 @@ module _ {map : Map} (o : Open) {piece : Piece} (next : IsPieceOf map o piece) w
       side (o.next + k) (block_at map.atom bytes k)) (first_side ∙ sym (piece_side k below))
 
 -- a block that was read is right, where no unfinished write has tried it
-right_read : {K : Type 0} {state : State K} {seals : Seals} {plain : ℕ → List ℕ} {left : List Block}
+pub right_read : {K : Type 0} {state : State K} {seals : Seals} {plain : ℕ → InPlain} {left : List Block}
     {view : View} (b : ℕ) {sealed : List ℕ} → AreLawful state.map.atom seals
     → Logic state plain left → Shown state seals plain left view → state.broken ≡ false
     → IsLive state b → ((lane : ℕ) (value : List ℕ) → IsTriedBy state plain lane b value → ⊥)
@@ -138,35 +155,53 @@ right_read {state = state} {seals = seals} {left = left} b lawful logic shown wa
       logic.sure was b below.inside,
     )
 
+-- what is known of the edges once another piece was read or tried
+pub edges_more : {atom : ℕ} {left : List Block} {ask : Ask} {read count more : ℕ}
+    {edges : List (List ℕ)} → KnowsEdges atom left ask read count edges
+    → (IsWrite ask → read ≡ length (edges_of atom ask)) → KnowsEdges atom left ask read more edges
+edges_more knows all = record {
+  size = knows.size;
+  few = knows.few;
+  all = λ writes any. all writes;
+  are = knows.are;
+}
+
 -- no block of an operation is the zone's
 abbrev pub AreLive : {K : Type 0} → State K → Open → Type 0
 AreLive state o = (b : ℕ) → o.range.start ≤ b → b < o.range.end → IsLive state b
 
 -- what the lanes know in plain once a piece was read or tried
-abbrev pub now_of : {K : Type 0} → State K → Seals → (ℕ → List ℕ) → ℕ → List ℕ → ℕ → List ℕ
+abbrev pub now_of : {K : Type 0} → State K → Seals → (ℕ → InPlain) → ℕ → List ℕ → ℕ → InPlain
 now_of old seals plain lane bytes =
-    with_plain plain lane (plain lane ++ plain_piece seals old lane bytes)
+    with_plain plain lane (with_bytes (plain lane) (plain_piece seals old lane bytes))
 
 abbrev pub opened_piece : {K : Type 0} → State K → Seals → Open → List ℕ → List ℕ
 opened_piece old seals o bytes = seals.opened (side_in old.map o.next) o.next bytes
 
-module _ {K : Type 0} (old : State K) (seals : Seals) (plain : ℕ → List ℕ) (lane : ℕ)
+module _ {K : Type 0} (old : State K) (seals : Seals) (plain : ℕ → InPlain) (lane : ℕ)
     (bytes : List ℕ) where
   pub now_is : {o : Open} → open_at old.lanes lane ≡ Some o →
-      now_of old seals plain lane bytes lane ≡ plain lane ++ opened_piece old seals o bytes
-  now_is at = plain-own plain lane (plain lane ++ plain_piece seals old lane bytes) ∙ rw at refl
+      (now_of old seals plain lane bytes lane).bytes
+      ≡ (plain lane).bytes ++ opened_piece old seals o bytes
+  now_is at = ap (λ p. p.bytes)
+      (plain-own plain lane (with_bytes (plain lane) (plain_piece seals old lane bytes)))
+      ∙ rw at refl
+
+  pub now_edges : (now_of old seals plain lane bytes lane).edges ≡ (plain lane).edges
+  now_edges = ap (λ p. p.edges)
+      (plain-own plain lane (with_bytes (plain lane) (plain_piece seals old lane bytes)))
 
   pub now_other : (k : ℕ) → k ≢ lane → now_of old seals plain lane bytes k ≡ plain k
-  now_other = plain-other plain lane (plain lane ++ plain_piece seals old lane bytes)
+  now_other = plain-other plain lane (with_bytes (plain lane) (plain_piece seals old lane bytes))
 
 -- a read tries nothing
-pub read_untried : {K : Type 0} {state : State K} {plain : ℕ → List ℕ} {lane : ℕ} {o : Open}
+pub read_untried : {K : Type 0} {state : State K} {plain : ℕ → InPlain} {lane : ℕ} {o : Open}
     → open_at state.lanes lane ≡ Some o → IsRead o.ask → TriesNothing state plain lane
 read_untried {o = o} at reads b value tried = never_both o.ask reads
     (let one : tried.o ≡ o = (cc) in subst (λ p. IsWrite p.ask) one tried.writes)
 
 -- a piece was read
-module _ {K : Type 0} {old new : State K} {seals : Seals} {plain : ℕ → List ℕ} {left : List Block}
+module _ {K : Type 0} {old new : State K} {seals : Seals} {plain : ℕ → InPlain} {left : List Block}
     {view : View} {lane : ℕ} {o : Open} {bytes : List ℕ} (at : open_at old.lanes lane ≡ Some o)
     (reads : IsRead o.ask) (is : GetsPiece old lane o bytes new)
     (lawful : AreLawful old.map.atom seals) (some : 0 < old.map.atom)
@@ -177,29 +212,29 @@ module _ {K : Type 0} {old new : State K} {seals : Seals} {plain : ℕ → List 
       → LaneKnows new (now_of old seals plain lane bytes) left lane (moved o is.piece)
   knows_read logic =
       let knows = logic.lanes lane o at in let opened = opened_piece old seals o bytes in
-      let all : now_of old seals plain lane bytes lane ≡ plain lane ++ opened =
+      let all : (now_of old seals plain lane bytes lane).bytes ≡ (plain lane).bytes ++ opened =
       now_is old seals plain lane bytes at in
       let exact : o.range.start + knows.count ≡ o.next = knows.exact has.goes_on in
       let under_way = logic.sound.under_way lane o at in record {
         count = knows.count + is.piece.count;
         are = rw (is.goes.map, all) (blocks_joined old.map.atom knows.count
-            is.piece.count (plain lane) opened knows.are (piece_blocks o is.next lawful is.are));
+            is.piece.count (plain lane).bytes opened knows.are (piece_blocks o is.next lawful is.are));
         least = omega arith;
         most = omega arith;
         exact = λ whole. omega arith;
         holds = λ any. rw is.goes.entries_are holds;
         reads = λ reading k below. rw (is.goes.map, all) (elim (cases_lt k knows.count) [
           | inl lt ↦ rw (block_at-front old.map.atom
-              knows.count (plain lane) opened k lt (omega arith)) (knows.reads reads k lt)
+              knows.count (plain lane).bytes opened k lt (omega arith)) (knows.reads reads k lt)
           | inr ge ↦
               let j : ℕ = k - knows.count in
               let place : k ≡ knows.count + j = omega arith in
               let lt : j < is.piece.count = omega arith in
               let b : o.range.start + k ≡ o.next + j = omega arith in
-              let value : block_at old.map.atom (plain lane ++ opened) k ≡ seals.opened
+              let value : block_at old.map.atom ((plain lane).bytes ++ opened) k ≡ seals.opened
               (side_in old.map (o.next + j)) (o.next + j) (block_at old.map.atom bytes j) =
-              ap (λ n. block_at old.map.atom (plain lane ++ opened) n) place
-              ∙ block_at-behind old.map.atom knows.count (plain lane) opened j knows.are.size
+              ap (λ n. block_at old.map.atom ((plain lane).bytes ++ opened) n) place
+              ∙ block_at-behind old.map.atom knows.count (plain lane).bytes opened j knows.are.size
               ∙ piece_block o is.next lawful is.are j lt in
               rw (b, value) (right_read (o.next + j) lawful logic shown is.was
               (live (o.next + j) (omega arith) (omega arith))
@@ -210,9 +245,12 @@ module _ {K : Type 0} {old new : State K} {seals : Seals} {plain : ℕ → List 
               ]) (content j lt ∙ ap (λ p. view.current p) (sym (piece_place o is.next j lt))))
         ]);
         kept = λ settled. absurd (omega (arith, knows.kept settled));
-        breaks = λ writes failed. absurd (never_both o.ask reads writes);
+        breaks = λ writes failed any. absurd (never_both o.ask reads writes);
         beside = λ b
             from to of. (live b from (omega arith)).free (governed_back b (goes_stays is.goes) of);
+        edges = rw (is.goes.map, now_edges old seals plain lane bytes)
+            (edges_more knows.edges (λ writes. absurd (never_both o.ask reads writes)));
+        edges_hold = λ any. rw is.goes.entries_are holds;
       }
 
   pub logic_read : IsSound new → Logic old plain left
@@ -222,7 +260,7 @@ module _ {K : Type 0} {old new : State K} {seals : Seals} {plain : ℕ → List 
       (λ k other held. rw is.goes.entries_are held)
       (λ one same. let e : one ≡ moved o is.piece = cc in rw e (knows_read logic)) logic
 
-pub shown_read : {K : Type 0} {old new : State K} {seals : Seals} {plain : ℕ → List ℕ}
+pub shown_read : {K : Type 0} {old new : State K} {seals : Seals} {plain : ℕ → InPlain}
     {left : List Block} {view next : View} {lane : ℕ} {o : Open} {bytes : List ℕ}
     → open_at old.lanes lane ≡ Some o → IsRead o.ask → GetsPiece old lane o bytes new
     → IsUnchanged view next → Shown old seals plain left view
@@ -236,12 +274,12 @@ shown_read {old = old} {seals = seals} {plain = plain} {lane = lane} {o = o} {by
     (λ whole. (is.was, same.current)) same.candidates
 
 -- what a lane knows of an operation that failed or is settled
-pub knows_with : {K : Type 0} {state : State K} {plain : ℕ → List ℕ} {left : List Block} {lane : ℕ}
+pub knows_with : {K : Type 0} {state : State K} {plain : ℕ → InPlain} {left : List Block} {lane : ℕ}
     {o : Open} (failed settled : Bool) → (failed ≡ false → o.failed ≡ false)
-    → (settled ≡ true → o.next ≡ o.range.end)
-    → (IsWrite o.ask → failed ≡ true → state.broken ≡ true) → LaneKnows state plain left lane o
+    → (settled ≡ true → o.next ≡ o.range.end) → (knows : LaneKnows state plain left lane o)
+    → (IsWrite o.ask → failed ≡ true → 0 < knows.count → state.broken ≡ true)
     → LaneKnows state plain left lane (record o { failed = failed; settled = settled })
-knows_with failed settled unfailed kept breaks knows = record {
+knows_with failed settled unfailed kept knows breaks = record {
   count = knows.count;
   are = knows.are;
   least = knows.least;
@@ -252,10 +290,12 @@ knows_with failed settled unfailed kept breaks knows = record {
   kept = kept;
   beside = knows.beside;
   breaks = breaks;
+  edges = knows.edges;
+  edges_hold = knows.edges_hold;
 }
 
 -- an event that leaves the table of locks
-module _ {K : Type 0} {old new : State K} {plain : ℕ → List ℕ} {left : List Block} {lane : ℕ}
+module _ {K : Type 0} {old new : State K} {plain : ℕ → InPlain} {left : List Block} {lane : ℕ}
     {next : Option Open} {is_broken : Bool} (goes : Goes old new lane old.entries next is_broken)
     (unbroken : is_broken ≡ false → old.broken ≡ false) where
   pub knows_on : {k : ℕ} {o : Open} → LaneKnows old plain left k o → LaneKnows new plain left k o
@@ -270,14 +310,24 @@ module _ {K : Type 0} {old new : State K} {plain : ℕ → List ℕ} {left : Lis
 module _ {K : Type 0} {old new : State K} {lane : ℕ} {o : Open} {is_broken : Bool}
     (at : open_at old.lanes lane ≡ Some o)
     (goes : Goes old new lane old.entries (Some (failing o)) is_broken) where
-  pub logic_failed : {plain : ℕ → List ℕ} {left : List Block}
-      → (is_broken ≡ false → old.broken ≡ false) → (IsWrite o.ask → is_broken ≡ true)
+  pub logic_failed : {plain : ℕ → InPlain} {left : List Block}
+      → (is_broken ≡ false → old.broken ≡ false)
+      → (IsWrite o.ask → (is_broken ≡ true) ⊎ HasMadeNothing o)
       → IsSound new → Logic old plain left → Logic new plain left
-  logic_failed unbroken breaks sound logic = logic_goes_on goes unbroken sound
+  logic_failed {plain = plain} {left = left} unbroken breaks sound logic =
+      logic_goes_on goes unbroken sound
       (λ one same. let e : one ≡ failing o = cc in
       let knows = knows_on goes unbroken (logic.lanes lane o at) in
-      rw e (knows_with true o.settled (λ whole. absurd (cc)) knows.kept
-      (λ writes failed. goes.broken_is ∙ breaks writes) knows)) logic
+      rw e (knows_with true o.settled (λ whole. absurd (cc)) knows.kept knows
+      (λ writes failed some. goes.broken_is ∙ by knows writes some))) logic
+    where
+      by : (knows : LaneKnows new plain left lane o) → IsWrite o.ask → 0 < knows.count
+          → is_broken ≡ true
+      by knows writes some = elim (breaks writes) [
+        | inl broke ↦ broke
+        | inr (first, unfailed) ↦
+            absurd (let exact = knows.exact unfailed in omega (arith, exact, first, some))
+      ]
 
-  pub failing_keeps : {plain : ℕ → List ℕ} → KeepsWrites old plain new plain
+  pub failing_keeps : {plain : ℕ → InPlain} → KeepsWrites old plain new plain
   failing_keeps = writes_go_on goes.map goes.lane_is (λ k other. refl) at refl refl refl refl refl

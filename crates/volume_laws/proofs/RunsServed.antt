@@ -6,15 +6,16 @@ use Rattle.sector_disk.specs.DiskViews.Parts.{cell_in, value_in}
 use Rattle.sector_disk.specs.DiskViews.Views.{View, view_of_bytes, view_of_cells}
 use Rattle.volume_machine.specs.Answers.{by_settle, AreExchanges}
 use Rattle.volume_machine.specs.Asks.{IsRead, IsWrite}
+use Rattle.volume_machine.specs.Edges.{InPlain}
 use Rattle.volume_machine.specs.Effects.{breaks}
-use Rattle.volume_machine.specs.Events.{Event, Outcome, admits, asks, finishes, reads, settles}
-use Rattle.volume_machine.specs.Events.{writes}
+use Rattle.volume_machine.specs.Events.{Event, Outcome, admits, asks, fetches, finishes, reads}
+use Rattle.volume_machine.specs.Events.{settles, writes}
 use Rattle.volume_machine.specs.Pieces.{place_in}
 use Rattle.volume_machine.specs.Runs.{Happening, no_plain, IsRun, answered_by, answered_in, last_of}
 use Rattle.volume_machine.specs.Runs.{plain_after, plain_in}
 use Rattle.volume_machine.specs.Seals.{Seals}
 use Rattle.volume_machine.specs.States.{State, open_at}
-use Rattle.volume_machine.specs.Steps.{CanSettle, Holds, Meets, SettleStep, Can, Step}
+use Rattle.volume_machine.specs.Steps.{CanFetch, CanSettle, Holds, Meets, SettleStep, Can, Step}
 use Rattle.volume_machine.specs.Working.{KeepsApart, Works}
 use Rattle.std.proofs.lemmas.Bool.{or_parts}
 use Rattle.sector_disk.proofs.DiskViews.{Entries.image_in, TableEntries.place_of_some}
@@ -22,7 +23,7 @@ use Rattle.volume_machine.specs.declared.open.Open.{Open}
 use Rattle.volume_machine.proofs.{EventEffects.event_effects, Soundness.sound_kept}
 use Rattle.volume_laws.specs.Contents.{IsSealed, block_in}
 use Rattle.volume_laws.specs.Promises.{ServesEachRun, Starts, StartsCovered, TellsWhole}
-use Rattle.volume_laws.proofs.EventsServed.{IsFine, Served, admit_served, flush_served}
+use Rattle.volume_laws.proofs.EventsServed.{IsFine, Served, admit_served, fetch_served, flush_served}
 use Rattle.volume_laws.proofs.EventsServed.{forced_locks, goes_on, read_served, settle_served}
 use Rattle.volume_laws.proofs.EventsServed.{write_served}
 use Rattle.volume_laws.proofs.{Admits.idle, Answering.legal_none, EndsServed.finish_served}
@@ -31,10 +32,11 @@ use Rattle.volume_laws.proofs.{OtherLanes.event_left, PlainBlocks.sure_in, Readi
 use Rattle.volume_laws.proofs.{Reading.writes_lock, SealLemmas.length-sealed, Workings.client_live}
 use Rattle.volume_laws.proofs.{Workings.lies_on, Workings.works_apart, Workings.works_stay}
 
-settles_served : {K P Q : Type 0} {seals : Seals} {old new : State K} {plain : ℕ → List ℕ}
+settles_served : {K P Q : Type 0} {seals : Seals} {old new : State K} {plain : ℕ → InPlain}
     {left : List Block} (lane : ℕ) (o : Open) (outcome : Outcome) (exchanges : List Exchange) →
     Here P Q old seals plain left → IsFine new → open_at old.lanes lane ≡ Some o → CanSettle o
-    → SettleStep old lane o outcome new → AreExchanges (by_settle (Some o) outcome) exchanges
+    → SettleStep old lane o outcome new
+    → AreExchanges (by_settle old.map.atom (Some o) outcome) exchanges
     → Served P Q seals old new plain left exchanges
 settles_served lane o outcome exchanges here fine at (inl is) step are =
     flush_served lane exchanges here fine outcome at is step (rw is at are)
@@ -68,7 +70,7 @@ module _ {K : Type 0} (old new : State K) (event : Event) (outcome : Outcome)
       others_left goes.disk.atoms works
 
 -- each event
-pub event_served : {K P Q : Type 0} {seals : Seals} {old new : State K} {plain : ℕ → List ℕ}
+pub event_served : {K P Q : Type 0} {seals : Seals} {old new : State K} {plain : ℕ → InPlain}
     {left : List Block} (event : Event) (outcome : Outcome) (exchanges : List Exchange) →
     Here P Q old seals plain left → IsFine new → Meets old event → Step old event outcome new
     → AreExchanges (answered_by old event outcome plain) exchanges →
@@ -85,10 +87,17 @@ event_served {old = old} (reads lane len) outcome exchanges here fine meets (o, 
     read_served lane exchanges here fine outcome are at reading (rw same at can.has) meets.can.1
     (λ whole. client_live lane here.logic.sound (works_apart here.works) whole at (reads_lock o.ask reading)
     meets.can.1 meets.client) step
+event_served {old = old} (fetches lane which) outcome exchanges here fine meets (o, at, step) are =
+    let (p, is, can) = meets.can.0 in let same : p ≡ o = cc in
+    let mine : CanFetch old.map which o = subst (λ q. CanFetch old.map which q) same can in
+    fetch_served lane exchanges here fine which outcome are at mine
+    meets.can.1 (λ whole. client_live lane here.logic.sound (works_apart here.works) whole at
+    (writes_lock o.ask mine.writes) meets.can.1 meets.client) step
 event_served {old = old} (writes lane bytes) outcome exchanges here fine meets (o, at, step) are =
     let (p, is, can) = meets.can.0 in let same : p ≡ o = cc in
     let writing = subst (λ q. IsWrite q.ask) same can.writes in
-    write_served lane exchanges here fine bytes outcome are at writing (rw same at can.has)
+    write_served lane exchanges here fine bytes outcome are at writing (rw same at can.edges)
+    (rw same at can.has)
     meets.can.1 (λ whole. client_live lane here.logic.sound (works_apart here.works) whole at
     (writes_lock o.ask writing) meets.can.1 meets.client) step
 event_served (settles lane) outcome exchanges here fine meets (o, at, step) are =
@@ -118,13 +127,13 @@ legal_joined atom old middle new (exchange ∷ xs) ys (next, step, first) rest =
     (next, step, legal_joined atom next middle new xs ys first rest)
 
 -- a run goes on from a moment to another
-record Ran {K : Type 0} (P Q : Type 0) (seals : Seals) (old : State K) (plain : ℕ → List ℕ)
+record Ran {K : Type 0} (P Q : Type 0) (seals : Seals) (old : State K) (plain : ℕ → InPlain)
     (left : List Block) (run : List (Happening K)) (exchanges : List Exchange) : Type 0 where
   next : List Block
   legal : Legal old.map.atom left exchanges next
   here : Here P Q (last_of old run) seals (plain_in seals old plain run) next
 
-run_served : {K P Q : Type 0} {seals : Seals} {old : State K} {plain : ℕ → List ℕ}
+run_served : {K P Q : Type 0} {seals : Seals} {old : State K} {plain : ℕ → InPlain}
     {left : List Block} (run : List (Happening K)) (exchanges : List Exchange) →
     Here P Q old seals plain left → IsRun old run
     → AreExchanges (answered_in seals old plain run) exchanges

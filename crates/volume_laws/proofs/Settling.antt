@@ -9,13 +9,15 @@ use Rattle.plain_disk.specs.Plain.{Block, flushed}
 use Rattle.sector_disk.specs.DiskViews.Parts.{block_at}
 use Rattle.sector_disk.specs.DiskViews.Views.{IsSynced, IsThinned, View}
 use Rattle.volume_machine.specs.Asks.{IsForced, IsRead, IsWrite, has_lock}
+use Rattle.volume_machine.specs.Edges.{InPlain, edge_at}
 use Rattle.volume_machine.specs.Pieces.{place_in, settling}
 use Rattle.volume_machine.specs.Seals.{Seals}
-use Rattle.volume_machine.specs.Sound.{IsSound}
+use Rattle.volume_machine.specs.Sound.{IsSound, IsUnderWay}
 use Rattle.volume_machine.specs.States.{State, open_at}
 use Rattle.volume_machine.specs.Steps.{Goes, Holds}
 use Rattle.volume_machine.specs.Working.{Works}
 use Rattle.crash_laws.specs.HotZones.Calls.{syncs}
+use Rattle.volume_machine.proofs.EdgeBlocks.{edge_touched}
 use Rattle.volume_machine.specs.declared.open.Open.{Open}
 use Rattle.volume_laws.specs.Contents.{IsAllowedAt, IsNow, block_in}
 use Rattle.volume_laws.specs.Texts.{texts_of}
@@ -29,12 +31,12 @@ use Rattle.volume_laws.proofs.Reading.{tried_apart, writes_lock}
 use Rattle.volume_laws.proofs.Workings.{ended_live, works_apart, zone_renewed}
 
 -- what a write that made all its pieces has tried of a block is what the block holds
-pub own_value : {K : Type 0} {state : State K} {plain : ℕ → List ℕ} {left : List Block}
+pub own_value : {K : Type 0} {state : State K} {plain : ℕ → InPlain} {left : List Block}
     (lane b : ℕ) (value : List ℕ) {o : Open} → Logic state plain left → 0 < state.map.atom
     → open_at state.lanes lane ≡ Some o → IsWrite o.ask → Holds state lane → o.range.start ≤ b
-    → b < o.range.end → suc (b - o.range.start) * state.map.atom ≤ length (plain lane)
+    → b < o.range.end → suc (b - o.range.start) * state.map.atom ≤ length (plain lane).bytes
     → IsNow state plain left b value
-    → value ≡ block_at state.map.atom (plain lane) (b - o.range.start)
+    → value ≡ block_at state.map.atom (plain lane).bytes (b - o.range.start)
 own_value lane b value {o = o} logic some is writes holds from to enough (inl (k, tried)) =
     elim (same_or_not lane k) [
       | inl same ↦ let one : tried.o ≡ o = cc in rw (same, ← one) tried.value_is
@@ -43,7 +45,7 @@ own_value lane b value {o = o} logic some is writes holds from to enough (inl (k
     ]
 own_value {state = state} {plain = plain} lane b value {o = o} logic some is writes holds from to
     enough (inr (none, newest)) =
-    absurd (none lane (block_at state.map.atom (plain lane) (b - o.range.start)) (record {
+    absurd (none lane (block_at state.map.atom (plain lane).bytes (b - o.range.start)) (record {
       o = o;
       is = is;
       writes = writes;
@@ -53,9 +55,9 @@ own_value {state = state} {plain = plain} lane b value {o = o} logic some is wri
     }))
 
 -- all its pieces were made
-pub tried_whole : {K : Type 0} {state : State K} {plain : ℕ → List ℕ} {left : List Block} {lane : ℕ}
+pub tried_whole : {K : Type 0} {state : State K} {plain : ℕ → InPlain} {left : List Block} {lane : ℕ}
     (b : ℕ) {o : Open} → LaneKnows state plain left lane o → o.next ≡ o.range.end → o.range.start
-    ≤ b → b < o.range.end → suc (b - o.range.start) * state.map.atom ≤ length (plain lane)
+    ≤ b → b < o.range.end → suc (b - o.range.start) * state.map.atom ≤ length (plain lane).bytes
 tried_whole b {o = o} knows whole from to =
     let count : suc (b - o.range.start) ≤ knows.count = omega arith in
     rw knows.are.size (grind (arith, count))
@@ -67,7 +69,7 @@ SettledBefore old new = (lane : ℕ) (o : Open) → open_at new.lanes lane ≡ S
     × IsForced p.ask × (p.range ≡ o.range) × (p.next ≡ p.range.end)
 
 -- after a sync: each block's atom has the one candidate that it holds
-module _ {K : Type 0} {old new : State K} {plain : ℕ → List ℕ} {left : List Block}
+module _ {K : Type 0} {old new : State K} {plain : ℕ → InPlain} {left : List Block}
     (next_left : List Block) (logic : Logic old plain left) (some : 0 < old.map.atom)
     (works : Works old) (stays : Stays old new) (was : old.broken ≡ false)
     (keeps : KeepsTried old plain new plain) (newest : (b : ℕ) → b < old.map.blocks
@@ -117,14 +119,18 @@ module _ {K : Type 0} {old new : State K} {plain : ℕ → List ℕ} {left : Lis
         apart = (shown.zone work is).apart;
       }))
 
+-- a block of the plain disk has the same newest value, as certain as before
+abbrev pub IsSameIn : List Block → List Block → ℕ → Type 0
+IsSameIn left next b = ((block_in next b).newest ≡ (block_in left b).newest)
+    × ((block_in next b).unsure ≡ (block_in left b).unsure)
+
 -- what a lane knows of other blocks of the plain disk, where those that it has read are the same
-pub knows_renewed : {K : Type 0} {state : State K} {plain : ℕ → List ℕ} {left next : List Block}
+pub knows_renewed : {K : Type 0} {state : State K} {plain : ℕ → InPlain} {left next : List Block}
     {lane : ℕ} {o : Open} → (knows : LaneKnows state plain left lane o) →
-    (IsRead o.ask → (k : ℕ) → k < knows.count
-    → ((block_in next (o.range.start + k)).newest ≡ (block_in left (o.range.start + k)).newest)
-    × ((block_in next (o.range.start + k)).unsure ≡ (block_in left (o.range.start + k)).unsure))
+    (IsRead o.ask → (k : ℕ) → k < knows.count → IsSameIn left next (o.range.start + k))
+    → ((which : ℕ) → which < o.fetched → IsSameIn left next (edge_at state.map.atom o.ask which))
     → LaneKnows state plain next lane o
-knows_renewed knows same = record {
+knows_renewed knows same edges = record {
   count = knows.count;
   are = knows.are;
   least = knows.least;
@@ -136,16 +142,36 @@ knows_renewed knows same = record {
   kept = knows.kept;
   beside = knows.beside;
   breaks = knows.breaks;
+  edges = record {
+    size = knows.edges.size;
+    few = knows.edges.few;
+    all = knows.edges.all;
+    are = λ which below. (let right = knows.edges.are which below in
+        let (newest, unsure) = edges which below in (right.0 ∙ sym newest, unsure ∙ right.1));
+  };
+  edges_hold = knows.edges_hold;
 }
 
+-- an edge that was read is one of the volume's blocks
+pub edge_inside : {K : Type 0} {state : State K} {plain : ℕ → InPlain} {left : List Block}
+    {lane : ℕ} {o : Open} (which : ℕ) → IsUnderWay state.map o
+    → LaneKnows state plain left lane o → which < o.fetched
+    → (o.range.start ≤ edge_at state.map.atom o.ask which)
+    × (edge_at state.map.atom o.ask which < o.range.end)
+edge_inside {state = state} {o = o} which under_way knows below =
+    let touched = edge_touched state.map.atom o.ask which state.map.some_atom
+    (omega (arith, below, knows.edges.few)) in
+    let range = under_way.range_is in
+    (rw range touched.from, rw range touched.to)
+
 -- a lane that ends its flush has tried nothing
-flush_untried : {K : Type 0} {state : State K} {plain : ℕ → List ℕ} {lane : ℕ} {o : Open}
+flush_untried : {K : Type 0} {state : State K} {plain : ℕ → InPlain} {lane : ℕ} {o : Open}
     → open_at state.lanes lane ≡ Some o → has_lock o.ask ≡ false → TriesNothing state plain lane
 flush_untried {o = o} is free b value tried =
     let one : tried.o ≡ o = cc in
     let locks = writes_lock o.ask (subst (λ p. IsWrite p.ask) one tried.writes) in cc
 
-module _ {K : Type 0} {old new : State K} {plain : ℕ → List ℕ} {left : List Block} {lane : ℕ}
+module _ {K : Type 0} {old new : State K} {plain : ℕ → InPlain} {left : List Block} {lane : ℕ}
     {is_broken : Bool} (goes : Goes old new lane old.entries None is_broken) where
   pub logic_unflushed : (is_broken ≡ false → old.broken ≡ false) → IsSound new
       → Logic old plain left → Logic new plain left
@@ -164,9 +190,13 @@ module _ {K : Type 0} {old new : State K} {plain : ℕ → List ℕ} {left : Lis
         };
         sure = λ whole b below. rw (same b below) (ended.sure whole b below);
         lanes = λ k o is. (let knows = ended.lanes k o is in
-            let under_way = sound.under_way k o is in knows_renewed knows (λ reading i below.
+            let under_way = sound.under_way k o is in
+            knows_renewed knows (λ reading i below.
             let e = same (o.range.start + i) (omega arith) in
-            (ap (λ block. block.newest) e, ap (λ block. block.unsure) e)));
+            (ap (λ block. block.newest) e, ap (λ block. block.unsure) e)) (λ which below.
+            let inside = edge_inside which under_way knows below in
+            let e = same (edge_at new.map.atom o.ask which) (omega (arith, inside.1, under_way.inside))
+            in (ap (λ block. block.newest) e, ap (λ block. block.unsure) e)));
       }
 
   module _ {seals : Seals} {o : Open} {view next : View} (is : open_at old.lanes lane ≡ Some o)
@@ -191,14 +221,14 @@ module _ {K : Type 0} {old new : State K} {plain : ℕ → List ℕ} {left : Lis
         (writes_stay goes.map goes.lane_is (λ k other. refl) (flush_untried is free)
         (idle goes.lane_is.own) (λ one same. absurd (cc))) (λ whole. absurd (cc))
 
-module _ {K : Type 0} {old new : State K} {plain : ℕ → List ℕ} {left : List Block} {lane : ℕ}
+module _ {K : Type 0} {old new : State K} {plain : ℕ → InPlain} {left : List Block} {lane : ℕ}
     {o : Open} (is : open_at old.lanes lane ≡ Some o) (whole : o.next ≡ o.range.end) (goes : Goes
     old new lane old.entries (Some (settling o)) false) (was : old.broken ≡ false) where
   pub logic_settled : IsSound new → Logic old plain left → Logic new plain left
   logic_settled sound logic = logic_goes_on goes (λ stays. was) sound
       (λ one same. let e : one ≡ settling o = cc in
       let knows = knows_on goes (λ stays. was) (logic.lanes lane o is) in
-      rw e (knows_with o.failed true (λ unfailed. unfailed) (λ settled. whole) knows.breaks knows))
+      rw e (knows_with o.failed true (λ unfailed. unfailed) (λ settled. whole) knows knows.breaks))
       logic
 
   pub shown_settled : {seals : Seals} {view next : View} → 0 < old.map.atom

@@ -9,6 +9,7 @@ use Rattle.sector_disk.specs.DiskViews.Parts.{AreBlocks, block_at, value_in}
 use Rattle.segment_map.specs.declared.Side.{Side}
 use Rattle.segment_map.specs.declared.Side.TheVariants.{New, Old, Zone}
 use Rattle.segment_map.specs.declared.map.Map.{Map}
+use Rattle.volume_machine.specs.Edges.{InPlain}
 use Rattle.volume_machine.specs.Pieces.{place_in, side_in}
 use Rattle.volume_machine.specs.Seals.{AreLawful, Seals}
 use Rattle.volume_machine.specs.States.{IsLive, State}
@@ -129,14 +130,14 @@ module _ {K : Type 0} (state : State K) (none : state.work ≡ None) where
       (λ b below. let (value, is, sealed) = each b below in (value, (is, sealed))) in
       (content, rw none (λ b below. (all b below).1), λ b below. (all b below).0)
 
-  pub now_stands : (reading : Reading) (seals : Seals) (plain : ℕ → List ℕ) (blocks : List Block)
+  pub now_stands : (reading : Reading) (seals : Seals) (plain : ℕ → InPlain) (blocks : List Block)
       (bytes : List ℕ) → StandsNow state seals plain blocks bytes
       → StandsForNow reading state seals plain blocks bytes
   now_stands reading seals plain blocks bytes stands =
       stands_chosen reading seals (λ place. block_at state.map.atom bytes place)
       (IsNow state plain blocks) (λ b below. stands b (all_live b below))
 
-  pub stops_stand : (reading : Reading) (seals : Seals) (plain : ℕ → List ℕ) (blocks : List Block)
+  pub stops_stand : (reading : Reading) (seals : Seals) (plain : ℕ → InPlain) (blocks : List Block)
       (cells : List Cell) → StopsAllowed state seals plain blocks cells
       → StandsAllowed reading state seals plain blocks cells
   stops_stand reading seals plain blocks cells stops = λ image is.

@@ -7,6 +7,7 @@ use Rattle.plain_disk.specs.Plain.{Block}
 use Rattle.sector_disk.specs.DiskViews.Parts.{block_at}
 use Rattle.sector_disk.specs.DiskViews.Views.{IsOutside, IsSynced, IsTried, IsUnchanged, IsWritten}
 use Rattle.sector_disk.specs.DiskViews.Views.{View}
+use Rattle.volume_machine.specs.Edges.{InPlain}
 use Rattle.volume_machine.specs.Pieces.{place_in}
 use Rattle.volume_machine.specs.Seals.{Seals}
 use Rattle.volume_machine.specs.States.{IsLive, State}
@@ -59,7 +60,7 @@ part_tried : {atom : ℕ} (area : Area) (values : ℕ → List ℕ) (n more : �
 part_tried area values n more text some within each call =
     record { some = some; within = within; text = text; each = each; call = call }
 
-module _ {K P Q : Type 0} {state : State K} {seals : Seals} {plain : ℕ → List ℕ} {left : List Block}
+module _ {K P Q : Type 0} {state : State K} {seals : Seals} {plain : ℕ → InPlain} {left : List Block}
     (here : Here P Q state seals plain left) (work : Work) (working : IsWorking state work) where
   away : (area : Area) → Reaches work.layout work.zone area → (x n : ℕ) → x + n ≤ area.count
       → (b : ℕ) → IsLive state b → IsOutside (area.start + x) n (place_in state.map b)

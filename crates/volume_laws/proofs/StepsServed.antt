@@ -5,6 +5,7 @@ use Rattle.crash_laws.specs.HotZones.Zones.{Resilience, checksum, datashift, jou
 use Rattle.plain_disk.specs.Plain.{Block}
 use Rattle.sector_disk.specs.DiskViews.Views.{View}
 use Rattle.segment_map.specs.declared.Side.TheVariants.{New, Old}
+use Rattle.volume_machine.specs.Edges.{InPlain}
 use Rattle.volume_machine.specs.Seals.{Seals}
 use Rattle.volume_machine.specs.States.{State}
 use Rattle.volume_machine.specs.Working.{IsWorking}
@@ -122,7 +123,7 @@ module _ {seals : Seals} {atom : ℕ} {work : Work} {old new : Device} where
       (step_kind step ∙ kind_of_phase resilience phase phased)
 
 -- what an old atom of the zone is as it is sealed anew
-pub newest_resealed : {K P Q : Type 0} {state : State K} {seals : Seals} {plain : ℕ → List ℕ}
+pub newest_resealed : {K P Q : Type 0} {state : State K} {seals : Seals} {plain : ℕ → InPlain}
     {left : List Block} → Here P Q state seals plain left → (work : Work) → IsWorking state work
     → (i : ℕ) → i < work.zone.own.count
     → resealed seals (work.range.start + i) ((texts_of state.map.atom seals left work).old i)
@@ -135,14 +136,14 @@ newest_resealed {seals = seals} {left = left} here work working i below =
     (here.logic.are.newest (work.range.start + i) (omega (arith, below, count, inside))))
 
 -- what is known of the zone while nothing has failed
-pub at_hand_now : {K : Type 0} {state : State K} {seals : Seals} {plain : ℕ → List ℕ}
+pub at_hand_now : {K : Type 0} {state : State K} {seals : Seals} {plain : ℕ → InPlain}
     {left : List Block} {view : View} (work : Work) → state.work ≡ Some work
     → state.broken ≡ false → Shown state seals plain left view
     → ShowsAtHand state.map.atom seals left work false view
 at_hand_now {state = state} {seals = seals} {left = left} {view = view} work is was shown =
     subst (λ b. ShowsAtHand state.map.atom seals left work b view) was (shown.zone work is)
 
-pub zone_step_served : {K P Q : Type 0} {old new : State K} {seals : Seals} {plain : ℕ → List ℕ}
+pub zone_step_served : {K P Q : Type 0} {old new : State K} {seals : Seals} {plain : ℕ → InPlain}
     {left : List Block} {phase : Phase} {part : Part} → Here P Q old seals plain left → Q
     → (work : Work) → old.work ≡ Some work → old.broken ≡ false
     → ZoneStep seals old.map.atom work old.disk new.disk work.phase work.part phase part

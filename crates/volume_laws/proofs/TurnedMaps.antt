@@ -8,6 +8,7 @@ use Rattle.sector_disk.specs.DiskViews.Views.{IsSynced, View, view_of_bytes}
 use Rattle.segment_map.specs.declared.Side.{Side}
 use Rattle.segment_map.specs.declared.Side.TheVariants.{Zone}
 use Rattle.segment_map.specs.declared.map.Map.{Map}
+use Rattle.volume_machine.specs.Edges.{InPlain}
 use Rattle.volume_machine.specs.Pieces.{place_in, side_in}
 use Rattle.volume_machine.specs.Seals.{AreLawful, Seals}
 use Rattle.volume_machine.specs.Sound.{IsSound}
@@ -22,6 +23,7 @@ use Rattle.volume_machine.specs.WorkSteps.{Proceeds}
 use Rattle.volume_machine.specs.declared.open.Open.{Open}
 use Rattle.volume_laws.specs.Contents.{IsNow, IsSealed, IsTriedBy, block_in}
 use Rattle.volume_laws.proofs.Here.{Here, moves_by_sync, positive}
+use Rattle.volume_laws.proofs.Invariant.{KnowsEdges}
 use Rattle.volume_laws.proofs.Invariant.{IsRight, Logic, Shown, ShowsWork}
 use Rattle.volume_laws.proofs.PlainBlocks.{newest_contained}
 use Rattle.volume_laws.proofs.Reading.{forced_writes, writes_lock}
@@ -65,7 +67,7 @@ module _ {K : Type 0} {old new : State K} {map : Map} {next : Work} {range : Blo
     zoned = λ b is. zoned b (sym (ap (λ m. side_in m b) on.map_is) ∙ is);
   }
 
-  pub logic_turned : {plain : ℕ → List ℕ} {left : List Block} → IsSound new
+  pub logic_turned : {plain : ℕ → InPlain} {left : List Block} → IsSound new
       → ((b : ℕ) → IsGoverned new b → IsGoverned old b)
       → Logic old plain left → Logic new plain left
   logic_turned {plain} {left} sound governed logic = record {
@@ -77,21 +79,24 @@ module _ {K : Type 0} {old new : State K} {map : Map} {next : Work} {range : Blo
     sure = λ whole b below. logic.sure was b (inside_before below);
     lanes = λ lane o is. (let knows = logic.lanes lane o (was_open lane is) in record {
       count = knows.count;
-      are = subst (λ n. AreBlocks n knows.count (plain lane)) (sym atom_is) knows.are;
+      are = subst (λ n. AreBlocks n knows.count (plain lane).bytes) (sym atom_is) knows.are;
       least = knows.least;
       most = knows.most;
       exact = knows.exact;
       holds = λ some. rw on.entries (knows.holds some);
       reads = λ reading k below. subst (λ n. IsRight left (o.range.start + k)
-          (block_at n (plain lane) k)) (sym atom_is) (knows.reads reading k below);
+          (block_at n (plain lane).bytes k)) (sym atom_is) (knows.reads reading k below);
       kept = knows.kept;
-      breaks = λ writes failed. absurd (let broke = knows.breaks writes failed in cc);
+      breaks = λ writes failed some. absurd (let broke = knows.breaks writes failed some in cc);
       beside = λ b from to of. knows.beside b from to (governed b of);
+      edges = subst (λ n. KnowsEdges n left o.ask o.fetched knows.count (plain lane).edges)
+          (sym atom_is) knows.edges;
+      edges_hold = λ some. rw on.entries (knows.edges_hold some);
     });
   }
 
   -- one of the zone, which nobody has tried, and whose atom is the new one
-  pub record IsTurned (seals : Seals) (plain : ℕ → List ℕ) (left : List Block) (after : View)
+  pub record IsTurned (seals : Seals) (plain : ℕ → InPlain) (left : List Block) (after : View)
       (b : ℕ) : Type 0 where
     pub untried : (lane : ℕ) (value : List ℕ) → IsTriedBy old plain lane b value → ⊥
     pub current : IsSealed new.map seals b (block_in left b).newest
@@ -99,7 +104,7 @@ module _ {K : Type 0} {old new : State K} {map : Map} {next : Work} {range : Blo
     pub candidates : (atom : List ℕ) → Contains (after.candidates (place_in new.map b)) atom
         → IsSealed new.map seals b (block_in left b).newest atom
 
-  tried_on : {plain : ℕ → List ℕ} (lane b : ℕ) (value : List ℕ) → IsTriedBy old plain lane b value
+  tried_on : {plain : ℕ → InPlain} (lane b : ℕ) (value : List ℕ) → IsTriedBy old plain lane b value
       → IsTriedBy new plain lane b value
   tried_on lane b value tried = record {
     o = tried.o;
@@ -110,7 +115,7 @@ module _ {K : Type 0} {old new : State K} {map : Map} {next : Work} {range : Blo
     value_is = rw atom_is tried.value_is;
   }
 
-  tried_back : {plain : ℕ → List ℕ} (lane b : ℕ) (value : List ℕ) → IsTriedBy new plain lane b value
+  tried_back : {plain : ℕ → InPlain} (lane b : ℕ) (value : List ℕ) → IsTriedBy new plain lane b value
       → IsTriedBy old plain lane b value
   tried_back lane b value tried = record {
     o = tried.o;
@@ -121,7 +126,7 @@ module _ {K : Type 0} {old new : State K} {map : Map} {next : Work} {range : Blo
     value_is = rw (← atom_is) tried.value_is;
   }
 
-  now_is : {plain : ℕ → List ℕ} (left : List Block) (b : ℕ) {value : List ℕ}
+  now_is : {plain : ℕ → InPlain} (left : List Block) (b : ℕ) {value : List ℕ}
       → IsNow old plain left b value → IsNow new plain left b value
   now_is left b {value} (inl (lane, tried)) = inl (lane, tried_on lane b value tried)
   now_is left b (inr (none, is)) = inr (
@@ -143,7 +148,7 @@ module _ {K : Type 0} {old new : State K} {map : Map} {next : Work} {range : Blo
         (sym (ap (λ m. side_in m b) on.map_is ∙ turns.same_sides b live.inside beyond)),
   )
 
-  pub shown_turned : {seals : Seals} {plain : ℕ → List ℕ} {left : List Block} {view after : View}
+  pub shown_turned : {seals : Seals} {plain : ℕ → InPlain} {left : List Block} {view after : View}
       → 0 < old.map.atom → Works old → Logic old plain left
       → ((b : ℕ) → IsLive old b → IsBeyond range b)
       → ((b : ℕ) → IsLive new b → IsLive old b ⊎ IsTurned seals plain left after b)
@@ -195,15 +200,15 @@ module _ {K : Type 0} {old new : State K} {map : Map} {next : Work} {range : Blo
             let same = synced.candidates (place_in old.map b) atom
             (subst (λ p. Contains (after.candidates p) atom) (place_same b alive (beyond b alive))
             contains) in
-            subst (λ n. IsSealed new.map seals b (block_at n (plain lane) (b - o.range.start)) atom)
+            subst (λ n. IsSealed new.map seals b (block_at n (plain lane).bytes (b - o.range.start)) atom)
             (sym atom_is)
-            (sealed_same seals b (block_at old.map.atom (plain lane) (b - o.range.start)) atom alive
+            (sealed_same seals b (block_at old.map.atom (plain lane).bytes (b - o.range.start)) atom alive
             (beyond b alive) (rw (← own, same) sealed)));
         zone = zone;
       }
 
   -- the moment after
-  pub here_turned : {P Q : Type 0} {seals : Seals} {plain : ℕ → List ℕ} {left : List Block}
+  pub here_turned : {P Q : Type 0} {seals : Seals} {plain : ℕ → InPlain} {left : List Block}
       → (here : Here P Q old seals plain left) → SyncCall old.disk new.disk succeeded
       → Logic new plain left → Works new
       → ((b : ℕ) → b < new.map.blocks → IsLive new b ⊎ (place_in new.map b ≡ place_in old.map b))

@@ -10,6 +10,7 @@ use Rattle.sector_disk.specs.DiskViews.Views.{IsOutside}
 use Rattle.segment_map.specs.declared.Side.{Side}
 use Rattle.segment_map.specs.declared.Side.TheVariants.{Zone}
 use Rattle.segment_map.specs.declared.map.Map.{Map}
+use Rattle.volume_machine.specs.Edges.{InPlain}
 use Rattle.volume_machine.specs.Pieces.{place_in, side_in}
 use Rattle.volume_machine.specs.Seals.{Seals}
 use Rattle.volume_machine.specs.States.{open_at, IsGoverned, IsLive, State}
@@ -178,7 +179,7 @@ module _ {K : Type 0} {reading : Reading} {old new : State K} (it : OpensZone re
           (rw (← it.phase) phased)
 
 pub opens_served : {K P Q : Type 0} {reading : Reading} {old new : State K} {seals : Seals}
-    {plain : ℕ → List ℕ} {left : List Block} → Here P Q old seals plain left
+    {plain : ℕ → InPlain} {left : List Block} → Here P Q old seals plain left
     → (it : OpensZone reading old new) → IsOnCourse reading old it.work → Here P Q new seals plain left
 opens_served {reading = reading} {old = old} {new = new} {seals = seals} {plain = plain}
     {left = left} here it course =

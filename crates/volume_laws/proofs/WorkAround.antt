@@ -6,6 +6,7 @@ use Rattle.plain_disk.specs.Plain.{Block, values_of}
 use Rattle.sector_disk.specs.DiskViews.Parts.{AreBlocks, block_at}
 use Rattle.sector_disk.specs.DiskViews.Views.{View}
 use Rattle.segment_map.specs.declared.Side.TheVariants.{Zone}
+use Rattle.volume_machine.specs.Edges.{InPlain}
 use Rattle.volume_machine.specs.Pieces.{place_in, side_in}
 use Rattle.volume_machine.specs.Seals.{Seals}
 use Rattle.volume_machine.specs.Sound.{IsSound}
@@ -21,6 +22,7 @@ use Rattle.volume_machine.specs.Works.{Part, advanced}
 use Rattle.volume_machine.specs.declared.open.Open.{Open}
 use Rattle.volume_laws.specs.Contents.{IsAllowedAt, IsNow, IsSealed, IsTriedBy, block_in}
 use Rattle.volume_laws.proofs.Here.{Here, Moves, here_after, positive}
+use Rattle.volume_laws.proofs.Invariant.{KnowsEdges}
 use Rattle.volume_laws.proofs.Invariant.{IsRight, KeepsTried, LaneKnows, Logic, Shown, ShowsWork}
 use Rattle.volume_laws.proofs.Invariant.{allowed_kept, now_kept, tried_goes}
 use Rattle.volume_laws.proofs.PlainBlocks.{newest_contained}
@@ -34,7 +36,7 @@ abbrev pub IsIn : Option Work → ℕ → Type 0
 IsIn work b = IsSomeAnd work (λ one. (one.range.start ≤ b) × (b < one.range.end))
 
 -- what a block holds is allowed
-pub now_allowed : {K : Type 0} (state : State K) (plain : ℕ → List ℕ) (left : List Block) (b : ℕ)
+pub now_allowed : {K : Type 0} (state : State K) (plain : ℕ → InPlain) (left : List Block) (b : ℕ)
     (value : List ℕ) → IsNow state plain left b value → IsAllowedAt state plain left b value
 now_allowed state plain left b value (inl tried) = inr tried
 now_allowed state plain left b value (inr (none, is)) =
@@ -43,7 +45,7 @@ now_allowed state plain left b value (inr (none, is)) =
 
 module _ {K : Type 0} {old new : State K} {next : Work} {is_broken : Bool}
     (on : Proceeds old new old.map next is_broken) where
-  pub same_tried : {plain : ℕ → List ℕ} → KeepsTried old plain new plain
+  pub same_tried : {plain : ℕ → InPlain} → KeepsTried old plain new plain
   same_tried = record {
     kept = λ lane b value tried. tried_goes on.map_is (ap (λ l. open_at l lane) on.lanes) refl tried;
     back = λ lane b value tried.
@@ -68,7 +70,7 @@ module _ {K : Type 0} {old new : State K} {next : Work} {is_broken : Bool}
     zoned = λ b is. zoned b (sym (ap (λ m. side_in m b) on.map_is) ∙ is);
   }
 
-  pub logic_worked : {plain : ℕ → List ℕ} {left : List Block} → IsSound new → old.broken ≡ false
+  pub logic_worked : {plain : ℕ → InPlain} {left : List Block} → IsSound new → old.broken ≡ false
       → ((lane : ℕ) (o : Open) → open_at old.lanes lane ≡ Some o
       → (knows : LaneKnows old plain left lane o) → (b : ℕ) → o.range.start ≤ b
       → b < o.range.start + knows.count → IsGoverned new b → ⊥)
@@ -80,21 +82,24 @@ module _ {K : Type 0} {old new : State K} {next : Work} {is_broken : Bool}
     lanes = λ lane o is. (let is_old : open_at old.lanes lane ≡ Some o = was_open lane is in
         let knows = logic.lanes lane o is_old in record {
           count = knows.count;
-          are = subst (λ m. AreBlocks m.atom knows.count (plain lane)) (sym on.map_is) knows.are;
+          are = subst (λ m. AreBlocks m.atom knows.count (plain lane).bytes) (sym on.map_is) knows.are;
           least = knows.least;
           most = knows.most;
           exact = knows.exact;
           holds = λ some. rw on.entries (knows.holds some);
           reads = λ reading k below. subst (λ m. IsRight left (o.range.start + k)
-              (block_at m.atom (plain lane) k)) (sym on.map_is) (knows.reads reading k below);
+              (block_at m.atom (plain lane).bytes k)) (sym on.map_is) (knows.reads reading k below);
           kept = knows.kept;
-          breaks = λ writes failed. absurd (let broke = knows.breaks writes failed in cc);
+          breaks = λ writes failed some. absurd (let broke = knows.breaks writes failed some in cc);
           beside = beside lane o is_old knows;
+          edges = subst (λ m. KnowsEdges m.atom left o.ask o.fetched knows.count (plain lane).edges)
+              (sym on.map_is) knows.edges;
+          edges_hold = λ some. rw on.entries (knows.edges_hold some);
         });
   }
 
   -- a block that was the zone's, which nobody has tried, and whose atom is still the old one
-  pub record IsBack (seals : Seals) (plain : ℕ → List ℕ) (left : List Block) (after : View)
+  pub record IsBack (seals : Seals) (plain : ℕ → InPlain) (left : List Block) (after : View)
       (b : ℕ) : Type 0 where
     pub untried : (lane : ℕ) (value : List ℕ) → IsTriedBy old plain lane b value → ⊥
     pub current : IsSealed old.map seals b (block_in left b).newest
@@ -103,19 +108,19 @@ module _ {K : Type 0} {old new : State K} {next : Work} {is_broken : Bool}
         → IsSealed old.map seals b (block_in left b).newest atom
 
   -- what a call leaves: of blocks that are live after it, of those that were, and of the zone
-  pub record IsAround (seals : Seals) (plain : ℕ → List ℕ) (left : List Block)
+  pub record IsAround (seals : Seals) (plain : ℕ → InPlain) (left : List Block)
       (view after : View) : Type 0 where
     pub live : (b : ℕ) → IsLive new b → IsLive old b ⊎ IsBack seals plain left after b
     pub beside : (b : ℕ) → IsLive old b → Leaves view after (place_in old.map b)
     pub zone : ShowsWork new seals left after
 
-  back_now : {seals : Seals} {plain : ℕ → List ℕ} {left : List Block} {after : View} (b : ℕ)
+  back_now : {seals : Seals} {plain : ℕ → InPlain} {left : List Block} {after : View} (b : ℕ)
       → IsBack seals plain left after b → IsNow new plain left b (block_in left b).newest
   back_now {left = left} b back = now_kept same_tried left b (block_in left b).newest
       (inr (back.untried, refl))
 
   -- live blocks
-  pub around : {plain : ℕ → List ℕ} {seals : Seals} {left : List Block} {view after : View}
+  pub around : {plain : ℕ → InPlain} {seals : Seals} {left : List Block} {view after : View}
       → 0 < old.map.atom → Logic old plain left → old.broken ≡ false → Works old
       → IsAround seals plain left view after → Shown old seals plain left view
       → Shown new seals plain left after
@@ -151,7 +156,7 @@ module _ {K : Type 0} {old new : State K} {next : Work} {is_broken : Bool}
           )
         ]);
     settled = λ lane o is forced is_settled b from to atom contains. subst (λ m. IsSealed m
-        seals b (block_at m.atom (plain lane) (b - o.range.start)) atom) (sym on.map_is)
+        seals b (block_at m.atom (plain lane).bytes (b - o.range.start)) atom) (sym on.map_is)
         (let is_old : open_at old.lanes lane ≡ Some o = was_open lane is in
         let knows = logic.lanes lane o is_old in
         let kept = knows.kept is_settled in
@@ -235,7 +240,7 @@ module _ {K : Type 0} {old new : State K} (work : Work) {phase : Phase} {part : 
 
 -- a step of the worker that leaves the map, by what its call does
 pub worked_served : {K P Q : Type 0} {old new : State K} {next : Work} {seals : Seals}
-    {plain : ℕ → List ℕ} {left : List Block} {Rel : View → View → Type 0}
+    {plain : ℕ → InPlain} {left : List Block} {Rel : View → View → Type 0}
     → (here : Here P Q old seals plain left) → (on : Proceeds old new old.map next false)
     → old.broken ≡ false → Works new
     → ((b : ℕ) → side_in old.map b ≡ Zone → IsGoverned new b)

@@ -3,6 +3,7 @@ use Rattle.std.proofs.Common.{Bool, List, arith, false, length, subst, sym, true
 use Rattle.std.proofs.Common.{◌≤◌}
 use Rattle.plain_disk.specs.Plain.{Block}
 use Rattle.sector_disk.specs.DiskViews.Views.{IsTried, IsWritten, View}
+use Rattle.volume_machine.specs.Edges.{InPlain}
 use Rattle.volume_machine.specs.Seals.{Seals}
 use Rattle.volume_machine.specs.States.{State}
 use Rattle.crash_laws.specs.HeaderAreas.Commits.{Stage, begun, first_written, first_kept, second_written}
@@ -28,7 +29,7 @@ moves_as goes moves = record {
       (before, was, size, goes _ _ moved));
 }
 
-module _ {K P Q : Type 0} {state : State K} {seals : Seals} {plain : ℕ → List ℕ} {left : List Block}
+module _ {K P Q : Type 0} {state : State K} {seals : Seals} {plain : ℕ → InPlain} {left : List Block}
     (here : Here P Q state seals plain left) {new : Device} where
   -- a write, and one that failed
   pub put_moves : {at : ℕ} (n : ℕ) {text : List ℕ} → Q → state.broken ≡ false

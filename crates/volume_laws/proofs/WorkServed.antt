@@ -2,6 +2,7 @@
 -- worker leaves it where it is.
 use Rattle.std.proofs.Common.{List, [], length, subst, suc, sym, ℕ, ◌≡◌}
 use Rattle.plain_disk.specs.Plain.{Block}
+use Rattle.volume_machine.specs.Edges.{InPlain, nothing}
 use Rattle.volume_machine.specs.Seals.{Seals}
 use Rattle.volume_machine.specs.States.{State}
 use Rattle.volume_machine.specs.Courses.{Courses}
@@ -22,11 +23,11 @@ use Rattle.volume_laws.proofs.TurnsServed.{opens_served}
 use Rattle.volume_laws.proofs.ZoneEnded.{ends_served}
 
 -- the worker's lane has nothing in plain
-abbrev pub NothingOfWorkers : {K : Type 0} → State K → (ℕ → List ℕ) → Type 0
-NothingOfWorkers state plain = (lane : ℕ) → suc lane ≡ length state.lanes → plain lane ≡ []
+abbrev pub NothingOfWorkers : {K : Type 0} → State K → (ℕ → InPlain) → Type 0
+NothingOfWorkers state plain = (lane : ℕ) → suc lane ≡ length state.lanes → plain lane ≡ nothing
 
 module _ {K P Q : Type 0} {reading : Reading} {old new : State K} {seals : Seals}
-    {plain : ℕ → List ℕ} {left : List Block} (here : Here P Q old seals plain left) (all : Q)
+    {plain : ℕ → InPlain} {left : List Block} (here : Here P Q old seals plain left) (all : Q)
     (courses : Courses reading old) (none : NothingOfWorkers old plain) where
   same_here : new ≡ old → Here P Q new seals plain left
   same_here same = subst (λ s. Here P Q s seals plain left) (sym same) here

@@ -13,6 +13,7 @@ use Rattle.sector_disk.specs.DiskViews.Views.{IsOutside, IsTried, IsWritten, Vie
 use Rattle.segment_map.specs.declared.map.Map.{Map}
 use Rattle.segment_map.specs.declared.map.Piece.{Piece}
 use Rattle.volume_machine.specs.Asks.{IsForced, IsRead, IsWrite}
+use Rattle.volume_machine.specs.Edges.{InPlain, edges_of}
 use Rattle.volume_machine.specs.Pieces.{ArePieceBytes, IsPieceOf, place_in, place_of, side_in}
 use Rattle.volume_machine.specs.Seals.{AreLawful, Seals}
 use Rattle.volume_machine.specs.Sound.{AreApart, IsSound}
@@ -27,9 +28,9 @@ use Rattle.volume_laws.specs.Contents.{IsAllowedAt, IsNow, IsSealed, IsTriedBy}
 use Rattle.volume_laws.specs.Texts.{texts_of}
 use Rattle.volume_laws.proofs.Invariant.{LaneKnows, Logic, Shown, goes_stays, governed_back}
 use Rattle.volume_laws.proofs.Invariant.{logic_kept, shown_by, tried_goes}
-use Rattle.volume_laws.proofs.Reading.{AreLive, forced_writes, held_apart, never_both, now_is}
-use Rattle.volume_laws.proofs.Reading.{now_of, now_other, opened_piece, piece_block, piece_blocks}
-use Rattle.volume_laws.proofs.Reading.{piece_place, writes_lock}
+use Rattle.volume_laws.proofs.Reading.{AreLive, edges_more, forced_writes, held_apart, never_both}
+use Rattle.volume_laws.proofs.Reading.{now_edges, now_is, now_of, now_other, opened_piece}
+use Rattle.volume_laws.proofs.Reading.{piece_block, piece_blocks, piece_place, writes_lock}
 
 -- a block is the piece's or not
 pub in_piece : (first count b : ℕ)
@@ -56,7 +57,7 @@ place_outside {map = map} o {piece = piece} b apart next inside below outside =
     ]
 
 -- a lane's operation with one more piece that it has tried
-pub record TriesPiece {K : Type 0} (old new : State K) (seals : Seals) (plain : ℕ → List ℕ)
+pub record TriesPiece {K : Type 0} (old new : State K) (seals : Seals) (plain : ℕ → InPlain)
     (left : List Block) (lane : ℕ) (o next : Open) (piece : Piece) (bytes : List ℕ) : Type 0 where
   pub lawful : AreLawful old.map.atom seals
   pub some : 0 < old.map.atom
@@ -64,6 +65,7 @@ pub record TriesPiece {K : Type 0} (old new : State K) (seals : Seals) (plain : 
   pub logic : Logic old plain left
   pub at : open_at old.lanes lane ≡ Some o
   pub writes : IsWrite o.ask
+  pub edges : o.fetched ≡ length (edges_of old.map.atom o.ask)
   pub has : HasPiece o
   pub holds : Holds old lane
   pub is_piece : IsPieceOf old.map o piece
@@ -72,16 +74,17 @@ pub record TriesPiece {K : Type 0} (old new : State K) (seals : Seals) (plain : 
   pub goes : Goes old new lane old.entries (Some next) is_broken
   pub ask : next.ask ≡ o.ask
   pub range : next.range ≡ o.range
+  pub fetched : next.fetched ≡ o.fetched
   pub unsettled : next.settled ≡ o.settled
   pub live : AreLive old o
   pub works : Works old
   pub whole : old.broken ≡ false
 
-module _ {K : Type 0} {old new : State K} {seals : Seals} {plain : ℕ → List ℕ} {left : List Block}
+module _ {K : Type 0} {old new : State K} {seals : Seals} {plain : ℕ → InPlain} {left : List Block}
     {lane : ℕ} {o next : Open} {piece : Piece} {bytes : List ℕ}
     (it : TriesPiece old new seals plain left lane o next piece bytes) where
   -- what the lanes know in plain then, the piece in plain, and what the lane knew
-  abbrev now : ℕ → List ℕ
+  abbrev now : ℕ → InPlain
   now = now_of old seals plain lane bytes
 
   abbrev opened : List ℕ
@@ -90,7 +93,7 @@ module _ {K : Type 0} {old new : State K} {seals : Seals} {plain : ℕ → List 
   abbrev knows : LaneKnows old plain left lane o
   knows = it.logic.lanes lane o it.at
 
-  own : now lane ≡ plain lane ++ opened
+  own : (now lane).bytes ≡ (plain lane).bytes ++ opened
   own = now_is old seals plain lane bytes it.at
 
   exact : o.range.start + knows.count ≡ o.next
@@ -99,18 +102,18 @@ module _ {K : Type 0} {old new : State K} {seals : Seals} {plain : ℕ → List 
   piece_are : AreBlocks old.map.atom piece.count opened
   piece_are = piece_blocks o it.is_piece it.lawful it.are
 
-  long : length (plain lane ++ opened) ≡ (knows.count + piece.count) * old.map.atom
-  long = rw (length-append (plain lane) opened, knows.are.size, piece_are.size) (grind arith)
+  long : length ((plain lane).bytes ++ opened) ≡ (knows.count + piece.count) * old.map.atom
+  long = rw (length-append (plain lane).bytes opened, knows.are.size, piece_are.size) (grind arith)
 
   -- what it had tried stays tried
   own_still : (b : ℕ) (value : List ℕ) → IsTriedBy old plain lane b value
       → IsTriedBy new now lane b value
   own_still b value tried =
       let one : tried.o ≡ o = cc in
-      let most : suc (b - o.range.start) * old.map.atom ≤ length (plain lane) =
-      subst (λ p. suc (b - p.range.start) * old.map.atom ≤ length (plain lane)) one tried.tried in
-      let was : value ≡ block_at old.map.atom (plain lane) (b - o.range.start) = subst (λ p. value
-      ≡ block_at old.map.atom (plain lane) (b - p.range.start)) one tried.value_is in
+      let most : suc (b - o.range.start) * old.map.atom ≤ length (plain lane).bytes =
+      subst (λ p. suc (b - p.range.start) * old.map.atom ≤ length (plain lane).bytes) one tried.tried in
+      let was : value ≡ block_at old.map.atom (plain lane).bytes (b - o.range.start) = subst (λ p. value
+      ≡ block_at old.map.atom (plain lane).bytes (b - p.range.start)) one tried.value_is in
       let below : b - o.range.start < knows.count =
       (grind (arith, knows.are.size, most, it.some)) in
       record {
@@ -118,9 +121,9 @@ module _ {K : Type 0} {old new : State K} {seals : Seals} {plain : ℕ → List 
         is = it.goes.lane_is.own;
         writes = rw it.ask it.writes;
         begun = rw it.range (subst (λ p. p.range.start ≤ b) one tried.begun);
-        tried = rw (it.goes.map, it.range, own) (omega (arith, length-append (plain lane) opened));
+        tried = rw (it.goes.map, it.range, own) (omega (arith, length-append (plain lane).bytes opened));
         value_is = rw (it.goes.map, it.range, own) (was ∙ sym
-            (block_at-front old.map.atom knows.count (plain lane) opened (b - o.range.start) below
+            (block_at-front old.map.atom knows.count (plain lane).bytes opened (b - o.range.start) below
             (omega (arith, knows.are.size))));
       }
 
@@ -146,20 +149,20 @@ module _ {K : Type 0} {old new : State K} {seals : Seals} {plain : ℕ → List 
         begun = rw it.range (omega (arith, exact));
         tried = rw (it.goes.map, it.range, own, place) (rw long enough);
         value_is = rw (it.goes.map, it.range, own, place)
-            (sym (block_at-behind old.map.atom knows.count (plain lane) opened j knows.are.size));
+            (sym (block_at-behind old.map.atom knows.count (plain lane).bytes opened j knows.are.size));
       }
 
   -- no other block is
   own_was : (b : ℕ) (value : List ℕ) → IsOutside o.next piece.count b
       → IsTriedBy new now lane b value
-      → IsTriedBy old plain lane b (block_at old.map.atom (plain lane) (b - o.range.start))
+      → IsTriedBy old plain lane b (block_at old.map.atom (plain lane).bytes (b - o.range.start))
   own_was b value outside tried =
       let one : tried.o ≡ next = (cc) in let begun : o.range.start ≤ b =
       rw (← it.range) (subst (λ p. p.range.start ≤ b) one tried.begun) in
       let most : suc (b - o.range.start) * old.map.atom
       ≤ (knows.count + piece.count) * old.map.atom = rw (← long, ← own, ← it.range)
-      (subst (λ m. suc (b - next.range.start) * m.atom ≤ length (now lane)) it.goes.map
-      (subst (λ p. suc (b - p.range.start) * new.map.atom ≤ length (now lane)) one tried.tried)) in
+      (subst (λ m. suc (b - next.range.start) * m.atom ≤ length (now lane).bytes) it.goes.map
+      (subst (λ p. suc (b - p.range.start) * new.map.atom ≤ length (now lane).bytes) one tried.tried)) in
       let inside : b - o.range.start < knows.count + piece.count = (grind (arith, most, it.some)) in
       let count : suc (b - o.range.start) ≤ knows.count = omega (arith, exact) in record {
         o = o;
@@ -174,7 +177,7 @@ module _ {K : Type 0} {old new : State K} {seals : Seals} {plain : ℕ → List 
       → IsTriedBy new now k b value → (before : List ℕ) × IsTriedBy old plain k b before
   was_tried k b value outside tried = elim (same_or_not k lane) [
     | inl same ↦ (
-      block_at old.map.atom (plain lane) (b - o.range.start),
+      block_at old.map.atom (plain lane).bytes (b - o.range.start),
       rw same (own_was b value outside (rw same at tried)),
     )
     | inr other ↦ (
@@ -243,7 +246,7 @@ module _ {K : Type 0} {old new : State K} {seals : Seals} {plain : ℕ → List 
       → Shown old seals plain left view → (k : ℕ) (p : Open) → open_at new.lanes k ≡ Some p
       → IsForced p.ask → p.settled ≡ true → (b : ℕ) → p.range.start ≤ b → b < p.range.end
       → (atom : List ℕ) → Contains (after.candidates (place_in old.map b)) atom
-      → IsSealed old.map seals b (block_at old.map.atom (now k) (b - p.range.start)) atom
+      → IsSealed old.map seals b (block_at old.map.atom (now k).bytes (b - p.range.start)) atom
   tried_settled tried shown k p is forced settled b from to atom contains =
       elim (same_or_not k lane) [
         | inl same ↦
@@ -302,7 +305,7 @@ module _ {K : Type 0} {old new : State K} {seals : Seals} {plain : ℕ → List 
       record {
         count = knows.count + piece.count;
         are = rw (it.goes.map, own) (blocks_joined
-            old.map.atom knows.count piece.count (plain lane) opened knows.are piece_are);
+            old.map.atom knows.count piece.count (plain lane).bytes opened knows.are piece_are);
         least = rw it.range (omega (arith, exact));
         most = rw it.range (omega (arith, exact));
         exact = λ whole. (rw it.range (omega (arith, exact, exact_next whole)));
@@ -310,10 +313,13 @@ module _ {K : Type 0} {old new : State K} {seals : Seals} {plain : ℕ → List 
         reads = λ reading k below. absurd
             (never_both o.ask (subst (λ a. IsRead a) it.ask reading) it.writes);
         kept = λ settled. absurd (omega (arith, knows.kept (sym it.unsettled ∙ settled)));
-        breaks = λ writes failed. breaks failed;
+        breaks = λ writes failed any. breaks failed;
         beside = λ b from to of. (it.live b (rw (← it.range) from)
             (let last = subst (λ r. b < r.start + (knows.count + piece.count)) it.range to in
             omega (arith, exact))).free (governed_back b (goes_stays it.goes) of);
+        edges = rw (it.goes.map, it.ask, it.fetched, now_edges old seals plain lane bytes)
+            (edges_more knows.edges (λ writes. it.edges));
+        edges_hold = λ any. rw it.goes.entries_are it.holds;
       }
 
   pub logic_tried : IsSound new → (it.is_broken ≡ false → old.broken ≡ false)

@@ -4,6 +4,7 @@ use Rattle.std.proofs.Common.{◌<◌, ◌∙◌, ◌≡◌, ◌≤◌}
 use Rattle.plain_disk.specs.Plain.{Block}
 use Rattle.sector_disk.specs.DiskViews.Views.{IsOutside, IsSynced, View}
 use Rattle.segment_map.specs.declared.Side.TheVariants.{New}
+use Rattle.volume_machine.specs.Edges.{InPlain}
 use Rattle.volume_machine.specs.Pieces.{place_in, side_in}
 use Rattle.volume_machine.specs.Seals.{Seals}
 use Rattle.volume_machine.specs.States.{IsGoverned, IsLive, State, open_at}
@@ -91,7 +92,7 @@ module _ {K : Type 0} {reading : Reading} {old new : State K} (it : EndsZone rea
       (spare_on atoms working))
 
   -- the zone's blocks hold their new atoms
-  zone_turned : {seals : Seals} {plain : ℕ → List ℕ} {left : List Block} {view after : View}
+  zone_turned : {seals : Seals} {plain : ℕ → InPlain} {left : List Block} {view after : View}
       → IsWorking old it.work → Logic old plain left → 0 < old.map.atom → IsSynced view after
       → Shown old seals plain left view → (b : ℕ) → it.work.range.start ≤ b → b < it.work.range.end
       → IsTurned it.goes turns it.unbroken seals plain left after b
@@ -127,7 +128,7 @@ module _ {K : Type 0} {reading : Reading} {old new : State K} (it : EndsZone rea
       }
 
 pub ends_served : {K P Q : Type 0} {reading : Reading} {old new : State K} {seals : Seals}
-    {plain : ℕ → List ℕ} {left : List Block} → Here P Q old seals plain left
+    {plain : ℕ → InPlain} {left : List Block} → Here P Q old seals plain left
     → (it : EndsZone reading old new) → IsOnCourse reading old it.work → Here P Q new seals plain left
 ends_served {reading = reading} {old = old} {new = new} {seals = seals} {plain = plain}
     {left = left} here it course =

@@ -10,6 +10,7 @@ use Rattle.sector_disk.specs.DiskViews.Views.{View, view_of_bytes, view_of_cells
 use Rattle.sector_disk.specs.Steps.{Told}
 use Rattle.segment_map.specs.declared.Side.{Side}
 use Rattle.segment_map.specs.declared.Side.TheVariants.{New, Old}
+use Rattle.volume_machine.specs.Edges.{InPlain}
 use Rattle.volume_machine.specs.Pieces.{place_in, side_in}
 use Rattle.volume_machine.specs.Seals.{Seals}
 use Rattle.volume_machine.specs.States.{IsLive, State}
@@ -78,7 +79,7 @@ record IsSeen {K : Type 0} (reading : Reading) (state : State K) (seals : Seals)
   own : (b : ℕ) → work.range.start ≤ b → b < work.range.end → allowed b (block_in left b).newest
   apart : TellsAtoms state.map.atom (texts_of state.map.atom seals left work) work.zone work.phase
 
-module _ {K P Q : Type 0} {state : State K} {seals : Seals} {plain : ℕ → List ℕ} {left : List Block}
+module _ {K P Q : Type 0} {state : State K} {seals : Seals} {plain : ℕ → InPlain} {left : List Block}
     (reading : Reading) (here : Here P Q state seals plain left) (work : Work)
     (is : state.work ≡ Some work) (course : IsOnCourse reading state work)
     (hashes : ReadsDigests reading state) {allowed : ℕ → List ℕ → Type 0} {broken : Bool} {view : View}
@@ -286,7 +287,7 @@ module _ {K P Q : Type 0} {state : State K} {seals : Seals} {plain : ℕ → Lis
       )
 
 -- by the zone that the volume has
-module _ {K P Q : Type 0} {state : State K} {seals : Seals} {plain : ℕ → List ℕ} {left : List Block}
+module _ {K P Q : Type 0} {state : State K} {seals : Seals} {plain : ℕ → InPlain} {left : List Block}
     (reading : Reading) (here : Here P Q state seals plain left) (work : Work)
     (is : state.work ≡ Some work) (course : IsOnCourse reading state work)
     (hashes : ReadsDigests reading state) {allowed : ℕ → List ℕ → Type 0} {broken : Bool} {view : View}
@@ -307,7 +308,7 @@ module _ {K P Q : Type 0} {state : State K} {seals : Seals} {plain : ℕ → Lis
       )
 
 -- every image of the table
-pub stands_taken : {K P Q : Type 0} {state : State K} {seals : Seals} {plain : ℕ → List ℕ}
+pub stands_taken : {K P Q : Type 0} {state : State K} {seals : Seals} {plain : ℕ → InPlain}
     {left : List Block} (reading : Reading) (handed : Handed) → Here P Q state seals plain left → Q
     → P → IsReader reading.reader → (work : Work) → state.work ≡ Some work
     → IsOnCourse reading state work → AreDated reading state handed → ReadsDigests reading state
@@ -341,7 +342,7 @@ stands_taken {state = state} {seals = seals} {plain = plain} {left = left} readi
     })
 
 -- the disk's current bytes, while nothing has failed
-pub stands_now : {K P Q : Type 0} {state : State K} {seals : Seals} {plain : ℕ → List ℕ}
+pub stands_now : {K P Q : Type 0} {state : State K} {seals : Seals} {plain : ℕ → InPlain}
     {left : List Block} (reading : Reading) (here : Here P Q state seals plain left) → Q
     → IsReader reading.reader → (work : Work) → state.work ≡ Some work
     → IsOnCourse reading state work → ReadsDigests reading state → state.broken ≡ false

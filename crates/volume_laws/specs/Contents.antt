@@ -6,6 +6,7 @@ use Rattle.plain_disk.specs.Plain.{Block, values_of, settled, settled_blocks}
 use Rattle.sector_disk.specs.Cells.{Cell, IsImage}
 use Rattle.segment_map.specs.declared.map.Map.{Map}
 use Rattle.volume_machine.specs.Asks.{IsWrite}
+use Rattle.volume_machine.specs.Edges.{InPlain}
 use Rattle.volume_machine.specs.Pieces.{side_in, place_in}
 use Rattle.volume_machine.specs.Seals.{Seals}
 use Rattle.sector_disk.specs.DiskViews.Parts.{AreBlocks, block_at, cell_in, value_in}
@@ -33,38 +34,38 @@ StandsFor map seals blocks bytes = (b : ℕ) → b < map.blocks →
     IsSealed map seals b (block_in blocks b).newest (block_at map.atom bytes (place_in map b))
 
 -- an unfinished write of this lane has tried this value for the block
-pub record IsTriedBy {K : Type 0} (state : State K) (plain : ℕ → List ℕ) (lane b : ℕ)
+pub record IsTriedBy {K : Type 0} (state : State K) (plain : ℕ → InPlain) (lane b : ℕ)
     (value : List ℕ) : Type 0 where
   pub o : Open
   pub is : open_at state.lanes lane ≡ Some o
   pub writes : IsWrite o.ask
   pub begun : o.range.start ≤ b
-  pub tried : suc (b - o.range.start) * state.map.atom ≤ length (plain lane)
-  pub value_is : value ≡ block_at state.map.atom (plain lane) (b - o.range.start)
+  pub tried : suc (b - o.range.start) * state.map.atom ≤ length (plain lane).bytes
+  pub value_is : value ≡ block_at state.map.atom (plain lane).bytes (b - o.range.start)
 
 -- what a block holds: the value that an unfinished write has tried, else its newest
-abbrev pub IsNow : {K : Type 0} → State K → (ℕ → List ℕ) → List Block → ℕ → List ℕ → Type 0
+abbrev pub IsNow : {K : Type 0} → State K → (ℕ → InPlain) → List Block → ℕ → List ℕ → Type 0
 IsNow state plain blocks b value =
     ((lane : ℕ) × IsTriedBy state plain lane b value)
     ⊎ (((lane : ℕ) (other : List ℕ) → IsTriedBy state plain lane b other → ⊥)
     × (value ≡ (block_in blocks b).newest))
 
 -- the disk's current bytes stand for what each live block holds
-abbrev pub StandsNow : {K : Type 0} → State K → Seals → (ℕ → List ℕ) → List Block → List ℕ → Type 0
+abbrev pub StandsNow : {K : Type 0} → State K → Seals → (ℕ → InPlain) → List Block → List ℕ → Type 0
 StandsNow state seals plain blocks bytes = (b : ℕ) → IsLive state b →
     (value : List ℕ) × IsNow state plain blocks b value
     × IsSealed state.map seals b value (block_at state.map.atom bytes (place_in state.map b))
 
 -- a value that a stop may leave of a block: one of its values, or one that an unfinished write
 -- tried
-abbrev pub IsAllowedAt : {K : Type 0} → State K → (ℕ → List ℕ) → List Block → ℕ → List ℕ → Type 0
+abbrev pub IsAllowedAt : {K : Type 0} → State K → (ℕ → InPlain) → List Block → ℕ → List ℕ → Type 0
 IsAllowedAt state plain blocks b value =
     Contains (values_of (block_in blocks b)) value
     ⊎ ((lane : ℕ) × IsTriedBy state plain lane b value)
 
 -- a stop that finds this table leaves a content that is allowed: of each live block, each image
 -- stands for one
-abbrev pub StopsAllowed : {K : Type 0} → State K → Seals → (ℕ → List ℕ) → List Block → List Cell
+abbrev pub StopsAllowed : {K : Type 0} → State K → Seals → (ℕ → InPlain) → List Block → List Cell
     → Type 0
 StopsAllowed state seals plain blocks cells = (image : List (List ℕ)) → IsImage cells image →
     (b : ℕ) → IsLive state b → (value : List ℕ) × IsAllowedAt state plain blocks b value

@@ -8,6 +8,7 @@ use Rattle.sector_disk.specs.Steps.{Told}
 use Rattle.volume_laws.specs.Contents.{StopsAllowed}
 use Rattle.volume_laws.specs.Promises.{StartsCovered}
 use Rattle.volume_machine.specs.Answers.{AreExchanges, AreTagged, Tagged}
+use Rattle.volume_machine.specs.Edges.{InPlain}
 use Rattle.volume_machine.specs.Runs.{Happening, IsRun, last_of, answered_in, plain_in, no_plain}
 use Rattle.volume_machine.specs.Seals.{Seals}
 use Rattle.volume_machine.specs.States.{State, size_of}
@@ -18,7 +19,7 @@ pub record Executes {K : Type 0} (seals : Seals) (old new : State K) (run : List
     (history : List Tagged) : Type 0 where
   pub is : IsRun old run
   pub last : last_of old run ≡ new
-  pub answers : (plain : ℕ → List ℕ) → AreTagged (answered_in seals old plain run) history
+  pub answers : (plain : ℕ → InPlain) → AreTagged (answered_in seals old plain run) history
 
 -- A stop after some of the events: the operations answered by then are a front of the history, and
 -- where the disk tells its tables each image of it is allowed there.

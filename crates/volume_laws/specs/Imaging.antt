@@ -16,6 +16,7 @@ use Rattle.volume_laws.specs.Handing.{handed_over}
 use Rattle.volume_laws.specs.Standing.{Content, Stands, StandsForNow}
 use Rattle.volume_machine.specs.Answers.{AreExchanges}
 use Rattle.volume_machine.specs.Deeds.{AreDeeds, Deed, answered_over, plain_over, state_after}
+use Rattle.volume_machine.specs.Edges.{InPlain}
 use Rattle.volume_machine.specs.Readings.{Reading}
 use Rattle.volume_machine.specs.Runs.{no_plain}
 use Rattle.volume_machine.specs.Saved.{saved_hash}
@@ -53,7 +54,7 @@ HasHeader reading state image = (work : Work) → state.work ≡ Some work → (
     (to_of work.zone work.phase).means header
 
 -- each such image stands for an allowed content, by a header that the commit at hand may have left
-abbrev pub StandsTaken : {K : Type 0} → Reading → State K → Seals → (ℕ → List ℕ) → List Block
+abbrev pub StandsTaken : {K : Type 0} → Reading → State K → Seals → (ℕ → InPlain) → List Block
     → Handed → List Cell → Type 0
 StandsTaken reading state seals plain blocks handed cells =
     (image : List (List ℕ)) → IsTaken reading state handed cells image

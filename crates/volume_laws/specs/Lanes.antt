@@ -3,8 +3,10 @@ use Rattle.std.specs.Prelude.{ℕ, suc, ◌≡◌, ◌<◌, ◌==◌, true, if�
 use Rattle.std.specs.Prelude.{length, Some}
 use Rattle.segment_map.specs.declared.map.Map.{Map}
 use Rattle.volume_machine.specs.Alone.{Alone, AreMet, Call, alone_of, answers_of, idle_lane}
+use Rattle.volume_machine.specs.Alone.{in_plain}
 use Rattle.volume_machine.specs.Answers.{Answered}
 use Rattle.volume_machine.specs.Asks.{has_lock}
+use Rattle.volume_machine.specs.Edges.{InPlain}
 use Rattle.volume_machine.specs.Events.{lane_of}
 use Rattle.volume_machine.specs.Pieces.{AgreeOn}
 use Rattle.volume_machine.specs.Runs.{Happening, IsRun, answered_by, last_of, no_plain, plain_after}
@@ -25,7 +27,7 @@ own_calls lane [] = []
 own_calls lane (one ∷ rest) = call_of lane one ++ own_calls lane rest
 
 -- what it has answered under a lane
-unfoldable pub answered_under : {K : Type 0} → ℕ → Seals → State K → (ℕ → List ℕ) →
+unfoldable pub answered_under : {K : Type 0} → ℕ → Seals → State K → (ℕ → InPlain) →
     List (Happening K) → List Answered
 answered_under lane seals old plain [] = []
 answered_under lane seals old plain (one ∷ rest) =
@@ -34,10 +36,10 @@ answered_under lane seals old plain (one ∷ rest) =
 
 -- A lane is so by its own calls, in a state in which its operation has this much in plain. What it
 -- was granted has the operation's blocks as the state has them.
-pub record IsLane {K : Type 0} (state : State K) (plain : ℕ → List ℕ) (lane : ℕ)
+pub record IsLane {K : Type 0} (state : State K) (plain : ℕ → InPlain) (lane : ℕ)
     (alone : Alone) : Type 0 where
   pub operation : open_at state.lanes lane ≡ alone.operation
-  pub plain_is : plain lane ≡ alone.plain
+  pub plain_is : plain lane ≡ in_plain alone
   pub map : (map : Map) (o : Open) → alone.granted ≡ Some map → alone.operation ≡ Some o →
       AgreeOn o.range map state.map
   pub holds : (map : Map) (o : Open) → alone.granted ≡ Some map → alone.operation ≡ Some o →

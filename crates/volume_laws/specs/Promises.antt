@@ -1,5 +1,5 @@
 -- What is promised of every run of events.
-use Rattle.std.specs.Prelude.{length, ℕ, ◌≡◌, ◌*◌, ◌↔◌, Bool, true, false, ◌==◌, ◌||◌}
+use Rattle.std.specs.Prelude.{length, max, ℕ, ◌≡◌, ◌*◌, ◌↔◌, Bool, true, false, ◌==◌, ◌||◌}
 use Rattle.std.specs.Prelude.{if◌then◌else◌, List, [], ◌∷◌, replicate, Option, Some, None}
 use Rattle.std.specs.Prelude.{option_map}
 use Rattle.base_terms.specs.Blocks.{lengths}
@@ -10,7 +10,7 @@ use Rattle.plain_disk.specs.declared.operation.Reply.{Reply}
 use Rattle.plain_disk.specs.declared.operation.Reply.TheVariants.{ErrnoAt}
 use Rattle.sector_disk.specs.Cells.{AreSettled, content, currents}
 use Rattle.sector_disk.specs.Steps.{Told}
-use Rattle.volume_machine.specs.Asks.{wrong_ask}
+use Rattle.volume_machine.specs.Asks.{offset_of, wrong_ask}
 use Rattle.volume_laws.specs.Contents.{AreBlocksOf, StandsFor, StandsNow, StopsAllowed, Covers}
 use Rattle.volume_machine.specs.Beginnings.{IsFresh}
 use Rattle.volume_machine.specs.Effects.{breaks}
@@ -127,13 +127,13 @@ has_failed start earlier (settles lane) outcome = is_failure outcome
 has_failed start earlier (finishes lane) outcome = fails_in lane false earlier
 has_failed start earlier _ outcome = false
 
--- the offset at which the lane's next piece begins
-abbrev pub next_of : Option Open → ℕ
-next_of None = 0
-next_of (Some o) = o.next
+-- the offset of the first byte of its range in the lane's next piece
+abbrev pub next_of : ℕ → Option Open → ℕ
+next_of atom None = 0
+next_of atom (Some o) = max (offset_of o.ask) (o.next * atom)
 
 abbrev pub next_place : {K : Type 0} → State K → ℕ → ℕ
-next_place state lane = next_of (open_at state.lanes lane) * state.map.atom
+next_place state lane = next_of state.map.atom (open_at state.lanes lane)
 
 -- where the read of the event's lane has failed, given where it had before: at the piece that the
 -- event was to read
@@ -173,7 +173,7 @@ placed_error (ErrnoAt number place) = Some (number, place)
 placed_error _ = None
 
 -- what is answered by this event has a place exactly where it is a read of which a piece failed: 5,
--- where that piece begins
+-- and the offset of the first byte of its range in that piece
 abbrev pub PlacesAreExact : {K : Type 0} → Seals → State K → List (Happening K) → Happening K
     → Type 0
 PlacesAreExact seals start earlier one = (answered : Answered) →

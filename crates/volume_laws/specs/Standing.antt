@@ -14,6 +14,7 @@ use Rattle.segment_map.specs.declared.Side.TheVariants.{Old, New, Zone}
 use Rattle.segment_map.specs.declared.map.Map.{Map}
 use Rattle.volume_laws.specs.Contents.{IsSealed, IsNow, IsAllowedAt}
 use Rattle.volume_laws.specs.Texts.{atoms_of}
+use Rattle.volume_machine.specs.Edges.{InPlain}
 use Rattle.volume_machine.specs.Pieces.{side_in, place_in}
 use Rattle.volume_machine.specs.Seals.{Seals}
 use Rattle.volume_machine.specs.Readings.{Reading}
@@ -73,14 +74,14 @@ Stands reading state seals image content =
     StandsUnder reading state.disk.atoms seals state.map state.work image content
 
 -- where a disk's current bytes, or an image of its table, stand for contents of a volume
-abbrev pub StandsForNow : {K : Type 0} → Reading → State K → Seals → (ℕ → List ℕ) → List Block →
+abbrev pub StandsForNow : {K : Type 0} → Reading → State K → Seals → (ℕ → InPlain) → List Block →
     List ℕ → Type 0
 StandsForNow reading state seals plain blocks bytes =
     (content : Content)
     × Stands reading state seals (λ place. block_at state.map.atom bytes place) content
     × ((b : ℕ) → b < state.map.blocks → IsNow state plain blocks b (content b))
 
-abbrev pub StandsAllowed : {K : Type 0} → Reading → State K → Seals → (ℕ → List ℕ) → List Block →
+abbrev pub StandsAllowed : {K : Type 0} → Reading → State K → Seals → (ℕ → InPlain) → List Block →
     List Cell → Type 0
 StandsAllowed reading state seals plain blocks cells =
     (image : List (List ℕ)) → IsImage cells image →

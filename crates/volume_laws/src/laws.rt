@@ -24,6 +24,7 @@ ghost use Rattle.segment_map.specs.declared.Side.TheVariants.{Zone};
 ghost use Rattle.segment_map.specs.declared.map.Map.{Map};
 ghost use Rattle.volume_machine.specs.Alone.{MeetsAlone};
 ghost use Rattle.volume_machine.specs.Beginnings.{IsFresh};
+ghost use Rattle.volume_machine.specs.Edges.{InPlain};
 ghost use Rattle.volume_machine.specs.Events.{Event, Outcome, lane_of};
 ghost use Rattle.volume_laws.specs.Executing.{Executes, StopsAlong, TellsRun, ServesWithoutFaults};
 ghost use Rattle.volume_laws.specs.Executing.{BreaksByFaults};
@@ -146,9 +147,10 @@ pub fn failures_go_by_events<C: SectorCipher>()
 {}
 
 /// A read, a write or a flush that isn't wrong is answered 5 exactly where its admit found the
-/// volume broken, or one of its pieces or its settle answered that the device failed or the volume
-/// is broken. So it is for each event of a run that answers an operation. The answer has a place
-/// exactly where it is a read's of which a piece failed so: that at which the piece begins.
+/// volume broken, or one of its edges, its pieces or its settle answered that the device failed or
+/// the volume is broken. So it is for each event of a run that answers an operation. The answer has a place
+/// exactly where it is a read's of which a piece failed so: that of the first byte of its range in
+/// the piece.
 pub fn device_errors_are_exact<C: SectorCipher>()
     ensures reply { (start : State (Keys C)) (seals : Seals)
         (earlier later : List (Happening (Keys C))) (one : Happening (Keys C)) → IsFresh start →
@@ -209,12 +211,12 @@ pub fn lanes_are_alone<C: SectorCipher>()
     ensures next { (start : State (Keys C)) (seals : Seals) (run : List (Happening (Keys C)))
         (event : Event) → IsSound start → IsFresh start → AreSteps start run →
         AreMetByLanes start seals run → IsClient start (lane_of event) →
-        MeetsAlone (alone_in start seals (lane_of event) run) event
+        MeetsAlone seals (alone_in start seals (lane_of event) run) event
         → Meets (last_of start run) event }
     ensures more { (start : State (Keys C)) (seals : Seals) (run : List (Happening (Keys C)))
         (one : Happening (Keys C)) → AreMetByLanes start seals run →
         IsClient start (lane_of one.event) →
-        MeetsAlone (alone_in start seals (lane_of one.event) run) one.event →
+        MeetsAlone seals (alone_in start seals (lane_of one.event) run) one.event →
         AreMetByLanes start seals (run ++ one ∷ []) }
 {}
 
@@ -327,11 +329,11 @@ pub fn images_stand<C: SectorCipher>()
         Stands reading state seals image other →
         (b : ℕ) → b < state.map.blocks → one b ≡ other b }
     ensures now { (reading : Reading) (state : State (Keys C)) (seals : Seals)
-        (plain : ℕ → List ℕ) (blocks : List Block) (bytes : List ℕ) → state.work ≡ None →
+        (plain : ℕ → InPlain) (blocks : List Block) (bytes : List ℕ) → state.work ≡ None →
         StandsNow state seals plain blocks bytes →
         StandsForNow reading state seals plain blocks bytes }
     ensures stops { (reading : Reading) (state : State (Keys C)) (seals : Seals)
-        (plain : ℕ → List ℕ) (blocks : List Block) (cells : List Cell) → state.work ≡ None →
+        (plain : ℕ → InPlain) (blocks : List Block) (cells : List Cell) → state.work ≡ None →
         StopsAllowed state seals plain blocks cells →
         StandsAllowed reading state seals plain blocks cells }
 {}

@@ -15,12 +15,12 @@ use Rattle.volume_machine.specs.Alone.{open_after, passed}
 use Rattle.volume_machine.specs.Asks.{entry_of, has_lock, wrong_ask}
 use Rattle.volume_machine.specs.Effects.{DiskGoes, Effects, Grows, breaks, entries_after, is_fault}
 use Rattle.volume_machine.specs.Events.{Event, Outcome, admits, asks, broken, device, done}
-use Rattle.volume_machine.specs.Events.{finishes, got, held, lane_of, reads, refused, settles}
-use Rattle.volume_machine.specs.Events.{waits, writes}
+use Rattle.volume_machine.specs.Events.{fetches, finishes, got, held, lane_of, reads, refused}
+use Rattle.volume_machine.specs.Events.{settles, waits, writes}
 use Rattle.volume_machine.specs.Pieces.{ArePieceBytes, IsPieceOf, moved}
 use Rattle.volume_machine.specs.States.{State, open_at, size_of}
-use Rattle.volume_machine.specs.Steps.{Goes, IsAdmitted, ReadStep, SettleStep, TellsStanding}
-use Rattle.volume_machine.specs.Steps.{WriteStep, Step}
+use Rattle.volume_machine.specs.Steps.{EdgeStep, Goes, IsAdmitted, ReadStep, SettleStep}
+use Rattle.volume_machine.specs.Steps.{TellsStanding, WriteStep, Step}
 use Rattle.volume_machine.specs.declared.ask.Ask.{Ask}
 use Rattle.volume_machine.specs.declared.open.Open.{Open}
 use Rattle.sector_disk.specs.{Devices.Device, Devices.failed_call, Devices.succeeded, Steps.Moves}
@@ -166,6 +166,19 @@ module _ {K : Type 0} {old new : State K} where
       broken step.goes refl (rw at refl) (rw step.was refl) (rests_go refl step.rests)
   read_effects lane len o _ at step = absurd step
 
+  fetch_effects : (lane which : ℕ) (o : Open) (outcome : Outcome) →
+      open_at old.lanes lane ≡ Some o → EdgeStep old lane o which outcome new →
+      Effects (fetches lane which) outcome old new
+  fetch_effects lane which o (got bytes) at step =
+      let it = step.call in goes_effects (fetches lane which) (got bytes) step.goes refl
+      (rw at refl) (rw step.was refl) (call_goes _ it.size it.atoms it.cause it.told)
+  fetch_effects lane which o device at step =
+      let it = step.call in goes_effects (fetches lane which) device step.goes refl (rw at refl)
+      (rw step.was refl) (call_fails _ it.size it.atoms it.cause it.told)
+  fetch_effects lane which o broken at step = goes_effects (fetches lane which)
+      broken step.goes refl (rw at refl) (rw step.was refl) (rests_go refl step.rests)
+  fetch_effects lane which o _ at step = absurd step
+
   write_effects : (lane : ℕ) (o : Open) (bytes : List ℕ) (outcome : Outcome) →
       open_at old.lanes lane ≡ Some o → WriteStep old lane o bytes outcome new →
       Effects (writes lane bytes) outcome old new
@@ -201,6 +214,8 @@ event_effects old new (asks lane) outcome ((o, at, tells), same) =
     ask_effects lane o outcome tells same
 event_effects old new (reads lane len) outcome (o, at, step) =
     read_effects lane len o outcome at step
+event_effects old new (fetches lane which) outcome (o, at, step) =
+    fetch_effects lane which o outcome at step
 event_effects old new (writes lane bytes) outcome (o, at, step) =
     write_effects lane o bytes outcome at step
 event_effects old new (settles lane) outcome (o, at, step) = settle_effects lane o outcome at step

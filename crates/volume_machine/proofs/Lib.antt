@@ -1,3 +1,4 @@
+pub mod EdgeBlocks
 pub mod EventEffects
 pub mod KeyLemmas
 pub mod Locking

@@ -1,5 +1,6 @@
 -- The next piece of an operation: there is only one, and it lies on the disk.
-use Rattle.std.proofs.Common.{Some, ap, arith, inl, inr, mul-le-mul_right, refl, suc, sym, ℕ, ◌*◌}
+use Rattle.std.proofs.Common.{None, Option, Some, ap, arith, inl, inr, mul-le-mul_right, refl, suc, sym}
+use Rattle.std.proofs.Common.{ℕ, ◌*◌}
 use Rattle.std.proofs.Common.{◌+◌, ◌<◌, ◌∙◌, ◌≡◌, ◌≤◌}
 use Rattle.std.proofs.lemmas.Bool.{cases_lt}
 use Rattle.base_terms.specs.declared.block_range.BlockRange.{BlockRange}
@@ -8,7 +9,7 @@ use Rattle.segment_map.specs.declared.Side.{Side}
 use Rattle.segment_map.specs.declared.Side.TheVariants.{New}
 use Rattle.segment_map.specs.declared.map.Map.{Map}
 use Rattle.segment_map.specs.declared.map.Piece.{Piece}
-use Rattle.volume_machine.specs.Pieces.{AgreeOn, IsPieceOf, place_of, rest_of}
+use Rattle.volume_machine.specs.Pieces.{AgreeOn, IsPieceOf, place_in, place_of, rest_of}
 use Rattle.volume_machine.specs.Sound.{MapFits}
 use Rattle.volume_machine.specs.declared.open.Open.{Open}
 
@@ -60,6 +61,14 @@ place-of m o piece place next is =
     let side : side_at m piece.first ≡ Some piece.side =
     rw next.first (first_side m (rest_of o) piece next) in
     let found = rw side at is in cc
+
+-- the place of any block is its own
+pub place-in : (m : Map) (block place : ℕ) → place_at m block ≡ Some place → place ≡ place_in m block
+place-in m block place is = by (side_at m block) refl
+  where
+    by : (side : Option Side) → side_at m block ≡ side → place ≡ place_in m block
+    by None at = absurd (let none = rw at at is in cc)
+    by (Some side) at = let found = rw at at is in rw at (cc)
 
 -- it lies on the disk
 pub on_disk : (map : Map) (atoms first count : ℕ) (side : Side) → MapFits map atoms

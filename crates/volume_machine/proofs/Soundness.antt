@@ -11,17 +11,17 @@ use Rattle.range_lock.specs.declared.Entry.{Entry}
 use Rattle.segment_map.specs.declared.map.Map.{Map}
 use Rattle.volume_machine.specs.Asks.{entry_of, has_lock, range_of, wrong_ask}
 use Rattle.volume_machine.specs.Events.{Event, Outcome, admits, asks, broken, device, done}
-use Rattle.volume_machine.specs.Events.{finishes, got, reads, settles, writes}
+use Rattle.volume_machine.specs.Events.{fetches, finishes, got, reads, settles, writes}
 use Rattle.volume_machine.specs.Pieces.{failing, settling}
 use Rattle.volume_machine.specs.Sound.{IsSound, IsUnderWay, entry_in, locks, count_locks}
 use Rattle.volume_machine.specs.States.{State, begun, open_at, size_of}
-use Rattle.volume_machine.specs.Steps.{AdmitStep, Goes, IsAdmitted, Meets, ReadStep, SettleStep}
-use Rattle.volume_machine.specs.Steps.{WriteStep, after_settle, Can, Step}
+use Rattle.volume_machine.specs.Steps.{AdmitStep, EdgeStep, Goes, IsAdmitted, Meets, ReadStep}
+use Rattle.volume_machine.specs.Steps.{SettleStep, WriteStep, after_settle, Can, Step}
 use Rattle.volume_machine.specs.declared.ask.Ask.{Ask}
 use Rattle.volume_machine.specs.declared.ask.Ask.TheVariants.{Flush, Read, Write}
 use Rattle.volume_machine.specs.declared.open.Open.{Open}
 use Rattle.std.proofs.lemmas.Grind.{common_steps}
-use Rattle.plain_disk.proofs.RangeLemmas.{blocks_within, range_of_proper}
+use Rattle.plain_disk.proofs.RangeLemmas.{range_of_proper, touched_from, touched_within}
 use Rattle.volume_machine.proofs.Locking.{after-last, after-more, after-none, after-without}
 use Rattle.volume_machine.proofs.Locking.{find-last, find-left, find-more, find-without}
 use Rattle.volume_machine.proofs.Locking.{is_of-other, is_of-own, length-without, without-none}
@@ -91,9 +91,11 @@ has-entry lane [] e found = absurd (cc)
 has-entry lane (x ∷ xs) e found = grind (arith, has-entry lane xs e)
 
 -- the blocks of an operation are in order, and lie in the volume where it isn't wrong
-pub ordered : (atom : ℕ) (ask : Ask) → (range_of atom ask).start ≤ (range_of atom ask).end
-ordered atom Flush = omega arith
-ordered atom _ = omega arith
+pub ordered : (atom : ℕ) (ask : Ask) → 0 < atom
+    → (range_of atom ask).start ≤ (range_of atom ask).end
+ordered atom (Read offset len) some = touched_from atom offset len some
+ordered atom (Write offset len fua) some = touched_from atom offset len some
+ordered atom Flush some = omega arith
 
 pub proper-range : (atom size offset len : ℕ) → wrong_ask atom size (Read offset len) ≡ None →
     wrong_range_of atom size offset len 22 ≡ None
@@ -102,9 +104,9 @@ proper-range atom size offset len proper = grind (arith, common_steps)
 pub proper-inside : (atom blocks : ℕ) (ask : Ask) → 0 < atom
     → wrong_ask atom (blocks * atom) ask ≡ None → (range_of atom ask).end ≤ blocks
 proper-inside atom blocks (Read offset len) some proper =
-    blocks_within atom blocks offset len some (range_of_proper atom (blocks * atom) offset len 22
+    touched_within atom blocks offset len some (range_of_proper atom (blocks * atom) offset len 22
     (proper-range atom (blocks * atom) offset len proper))
-proper-inside atom blocks (Write offset len fua) some proper = blocks_within
+proper-inside atom blocks (Write offset len fua) some proper = touched_within
     atom blocks offset len some (range_of_proper atom (blocks * atom) offset len 28 proper)
 proper-inside atom blocks Flush some proper = omega arith
 
@@ -115,7 +117,7 @@ begins map session ask proper = record {
   proper = proper;
   range_is = refl;
   begun = omega arith;
-  within = ordered map.atom ask;
+  within = ordered map.atom ask map.some_atom;
   inside = proper-inside map.atom map.blocks ask map.some_atom proper;
 }
 
@@ -287,6 +289,19 @@ module _ {K : Type 0} {old : State K} (new : State K) (lane : ℕ) (sound : IsSo
       sound_open is step.goes (ap (λ d. d.atoms) step.rests) refl refl it.begun it.within
   sound_read o _ is step = absurd step
 
+  sound_fetch : (which : ℕ) (o : Open) (outcome : Outcome) → open_at old.lanes lane ≡ Some o
+      → EdgeStep old lane o which outcome new → IsSound new
+  sound_fetch which o (got bytes) is step =
+      let it = sound.under_way lane o is in
+      sound_open is step.goes step.call.atoms refl refl it.begun it.within
+  sound_fetch which o device is step =
+      let it = sound.under_way lane o is in
+      sound_open is step.goes step.call.atoms refl refl it.begun it.within
+  sound_fetch which o broken is step =
+      let it = sound.under_way lane o is in
+      sound_open is step.goes (ap (λ d. d.atoms) step.rests) refl refl it.begun it.within
+  sound_fetch which o _ is step = absurd step
+
   sound_write : (o : Open) (bytes : List ℕ) (outcome : Outcome) → open_at old.lanes lane ≡ Some o
       → WriteStep old lane o bytes outcome new → IsSound new
   sound_write o bytes done is step =
@@ -319,6 +334,8 @@ sound_kept old new (admits lane session ask) outcome sound meets step =
 sound_kept old new (asks lane) outcome sound meets step = rw step.1 sound
 sound_kept old new (reads lane len) outcome sound meets (o, is, step) =
     sound_read new lane sound o outcome is step
+sound_kept old new (fetches lane which) outcome sound meets (o, is, step) =
+    sound_fetch new lane sound which o outcome is step
 sound_kept old new (writes lane bytes) outcome sound meets (o, is, step) =
     sound_write new lane sound o bytes outcome is step
 sound_kept old new (settles lane) outcome sound meets (o, is, step) =

@@ -1,6 +1,6 @@
 -- Operations that were answered, and what they are to a plain disk.
-use Rattle.std.specs.Prelude.{ℕ, ◌≡◌, ◌+◌, ◌==◌, if◌then◌else◌, List, [], ◌∷◌, length, take}
-use Rattle.std.specs.Prelude.{Option, Some, None}
+use Rattle.std.specs.Prelude.{ℕ, ◌≡◌, ◌+◌, ◌*◌, ◌/◌, max, ◌==◌, if◌then◌else◌, List, [], ◌∷◌, length}
+use Rattle.std.specs.Prelude.{take, Option, Some, None}
 use Rattle.base_terms.specs.ErrorNumbers.{device_error}
 use Rattle.plain_disk.specs.declared.operation.Op.{Op}
 use Rattle.plain_disk.specs.declared.operation.Op.TheVariants as Ops
@@ -9,38 +9,51 @@ use Rattle.plain_disk.specs.declared.operation.Reply.TheVariants.{Content, Done,
 use Rattle.plain_disk.specs.Operations.{meaning_of}
 use Rattle.plain_disk.specs.Plain.{Exchange}
 use Rattle.volume_machine.specs.Asks.{has_lock, offset_of}
+use Rattle.volume_machine.specs.Edges.{InPlain, KeepsEdges, in_range, nothing}
 use Rattle.volume_machine.specs.Events.{Event, admits, settles, finishes, Outcome, refused, done}
 use Rattle.volume_machine.specs.declared.ask.Ask.{Ask}
 use Rattle.volume_machine.specs.declared.ask.Ask.TheVariants.{Read, Write, Flush}
 use Rattle.volume_machine.specs.declared.open.Open.{Open}
 
--- an operation that was answered: the session that asked for it, what it asked for, the bytes that
--- it read or tried to write, and its reply
+-- an operation that was answered, on blocks of `atom` bytes: the session that asked for it, what it
+-- asked for, what it had in plain, and its reply
 pub record Answered : Type 0 where
   pub session : ℕ
+  pub atom : ℕ
   pub ask : Ask
-  pub plain : List ℕ
+  pub plain : InPlain
   pub reply : Reply
 
-abbrev pub refusal : ℕ → Ask → ℕ → Answered
-refusal session ask number =
-    record { session = session; ask = ask; plain = []; reply = Errno number }
+abbrev pub refusal : ℕ → ℕ → Ask → ℕ → Answered
+refusal atom session ask number = record {
+  session = session;
+  atom = atom;
+  ask = ask;
+  plain = nothing;
+  reply = Errno number;
+}
 
 -- a refused operation is answered at its admit
-abbrev pub by_admit : ℕ → Ask → Outcome → List Answered
-by_admit session ask (refused number) = refusal session ask number ∷ []
-by_admit session ask _ = []
+abbrev pub by_admit : ℕ → ℕ → Ask → Outcome → List Answered
+by_admit atom session ask (refused number) = refusal atom session ask number ∷ []
+by_admit atom session ask _ = []
 
 -- a flush at its settle
 abbrev pub flush_reply : Outcome → Reply
 flush_reply done = Done
 flush_reply _ = Errno device_error
 
-abbrev pub by_settle : Option Open → Outcome → List Answered
-by_settle None outcome = []
-by_settle (Some o) outcome =
+abbrev pub by_settle : ℕ → Option Open → Outcome → List Answered
+by_settle atom None outcome = []
+by_settle atom (Some o) outcome =
     if has_lock o.ask then []
-    else record { session = o.session; ask = o.ask; plain = []; reply = flush_reply outcome } ∷ []
+    else record {
+      session = o.session;
+      atom = atom;
+      ask = o.ask;
+      plain = nothing;
+      reply = flush_reply outcome;
+    } ∷ []
 
 -- the error of a device, of a read with its place
 abbrev pub failed_at : Ask → ℕ → Reply
@@ -48,50 +61,61 @@ failed_at (Read offset len) place = ErrnoAt device_error place
 failed_at _ place = Errno device_error
 
 -- every other at its finish: by 5 where one of its events answered that the device failed or the
--- volume is broken, and of a read with the place of the piece at which that was, behind the bytes
--- that were read; a read else by its pieces joined
-abbrev pub failed_reply : Ask → List ℕ → Reply
-failed_reply ask plain = failed_at ask (offset_of ask + length plain)
+-- volume is broken, and of a read with the place of the first byte of its range in the piece at which
+-- that was, which is the first one behind the blocks that were read; a read else by the bytes of its
+-- range, out of its pieces joined
+abbrev pub failed_reply : ℕ → Ask → List ℕ → Reply
+failed_reply atom ask bytes =
+    failed_at ask (max (offset_of ask) (offset_of ask / atom * atom + length bytes))
 
-abbrev pub full_reply : Ask → List ℕ → Reply
-full_reply (Read offset len) plain = Content plain
-full_reply _ plain = Done
+abbrev pub full_reply : ℕ → Ask → List ℕ → Reply
+full_reply atom (Read offset len) bytes = Content (in_range atom offset len bytes)
+full_reply atom _ bytes = Done
 
-abbrev pub by_finish : Option Open → List ℕ → List Answered
-by_finish None plain = []
-by_finish (Some o) plain =
+abbrev pub by_finish : ℕ → Option Open → InPlain → List Answered
+by_finish atom None plain = []
+by_finish atom (Some o) plain =
     record {
       session = o.session;
+      atom = atom;
       ask = o.ask;
       plain = plain;
-      reply = if o.failed then failed_reply o.ask plain else full_reply o.ask plain;
+      reply = if o.failed then failed_reply atom o.ask plain.bytes
+          else full_reply atom o.ask plain.bytes;
     } ∷ []
 
 -- what an event answers, of its lane's open operation and what that has in plain
-abbrev pub answers : Event → Outcome → Option Open → List ℕ → List Answered
-answers (admits lane session ask) outcome operation plain = by_admit session ask outcome
-answers (settles lane) outcome operation plain = by_settle operation outcome
-answers (finishes lane) outcome operation plain = by_finish operation plain
-answers _ outcome operation plain = []
+abbrev pub answers : ℕ → Event → Outcome → Option Open → InPlain → List Answered
+answers atom (admits lane session ask) outcome operation plain = by_admit atom session ask outcome
+answers atom (settles lane) outcome operation plain = by_settle atom operation outcome
+answers atom (finishes lane) outcome operation plain = by_finish atom operation plain
+answers atom _ outcome operation plain = []
 
--- the operation is the one that was asked for, a write that of its bytes or of so many zeros; they
--- begin with the bytes that were tried
-abbrev pub Asked : Ask → List ℕ → Op → Type 0
-Asked (Read offset len) plain op = op ≡ Ops.Read offset len
-Asked (Write offset len fua) plain op =
+-- a body begins with the bytes of its range that were tried
+abbrev pub BeginsWith : List ℕ → List ℕ → Type 0
+BeginsWith body tried = take (length tried) body ≡ tried
+
+-- the operation is the one that was asked for, a write that of its bytes or of so many zeros; these
+-- begin with the bytes of its range that were tried
+abbrev pub Asked : ℕ → Ask → List ℕ → Op → Type 0
+Asked atom (Read offset len) bytes op = op ≡ Ops.Read offset len
+Asked atom (Write offset len fua) bytes op =
     (body : List ℕ) × (meaning_of op ≡ Ops.Write offset body fua) × (length body ≡ len) ×
-    (take (length plain) body ≡ plain)
-Asked Flush plain op = op ≡ Ops.Flush
+    BeginsWith body (in_range atom offset len bytes)
+Asked atom Flush bytes op = op ≡ Ops.Flush
 
--- how many bytes of it were tried
+-- how many bytes of its blocks were tried
 abbrev pub tried_by : Ask → List ℕ → ℕ
-tried_by (Write offset len fua) plain = length plain
-tried_by _ plain = 0
+tried_by (Write offset len fua) bytes = length bytes
+tried_by _ bytes = 0
 
+-- an operation that was answered is this one of a plain disk; beside its range a write tried what
+-- was read of its edges
 pub record IsExchange (answered : Answered) (exchange : Exchange) : Type 0 where
-  pub op : Asked answered.ask answered.plain exchange.op
+  pub op : Asked answered.atom answered.ask answered.plain.bytes exchange.op
+  pub edges : KeepsEdges answered.atom answered.ask answered.plain
   pub reply : exchange.reply ≡ answered.reply
-  pub tried : exchange.tried ≡ tried_by answered.ask answered.plain
+  pub tried : exchange.tried ≡ tried_by answered.ask answered.plain.bytes
 
 unfoldable pub AreExchanges : List Answered → List Exchange → Type 0
 AreExchanges [] [] = Unit {0}

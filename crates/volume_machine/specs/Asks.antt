@@ -1,20 +1,21 @@
 -- What operations ask for: their blocks, how they lock them, and which are wrong.
-use Rattle.std.specs.Prelude.{ℕ, ◌≡◌, ◌+◌, ◌/◌, ◌<◌, true, Bool, false, Option, Some, None, nat_lt}
+use Rattle.std.specs.Prelude.{ℕ, ◌≡◌, ◌/◌, ◌<◌, true, Bool, false, Option, Some, None, nat_lt}
 use Rattle.std.specs.Prelude.{if◌then◌else◌}
 use Rattle.base_terms.specs.ErrorNumbers.{invalid, no_space}
 use Rattle.base_terms.specs.declared.block_range.BlockRange.{BlockRange}
-use Rattle.plain_disk.specs.Operations.{wrong_range_of}
+use Rattle.plain_disk.specs.Operations.{touched_end, wrong_range_of}
 use Rattle.range_lock.specs.declared.Kind.{Kind}
 use Rattle.range_lock.specs.declared.Kind.TheVariants.{Shared, Alone}
 use Rattle.range_lock.specs.declared.Entry.{Entry}
 use Rattle.volume_machine.specs.declared.ask.Ask.{Ask}
 use Rattle.volume_machine.specs.declared.ask.Ask.TheVariants.{Read, Write, Flush}
 
--- the blocks that it reads or writes
+-- the blocks that it reads or writes, also in part
 abbrev pub range_of : ℕ → Ask → BlockRange
-range_of atom (Read offset len) = record { start = offset / atom; end = offset / atom + len / atom }
+range_of atom (Read offset len) =
+    record { start = offset / atom; end = touched_end atom offset len }
 range_of atom (Write offset len fua) =
-    record { start = offset / atom; end = offset / atom + len / atom }
+    record { start = offset / atom; end = touched_end atom offset len }
 range_of atom Flush = record { start = 0; end = 0 }
 
 -- the offset from which on it reads or writes

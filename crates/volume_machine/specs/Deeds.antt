@@ -2,6 +2,7 @@
 -- worker, in any order.
 use Rattle.std.specs.Prelude.{ℕ, List, [], ◌∷◌, ◌++◌}
 use Rattle.volume_machine.specs.Answers.{Answered}
+use Rattle.volume_machine.specs.Edges.{InPlain}
 use Rattle.volume_machine.specs.Events.{Event, Outcome}
 use Rattle.volume_machine.specs.Readings.{Reading}
 use Rattle.volume_machine.specs.Runs.{answered_by, plain_after}
@@ -38,21 +39,21 @@ state_after old (one ∷ rest) = state_after one.after rest
 
 -- what each answers, and the plain after it: the worker answers no operation, and its lane has none
 -- in plain
-abbrev pub plain_by : {K : Type 0} → Seals → State K → Act → (ℕ → List ℕ) → ℕ → List ℕ
+abbrev pub plain_by : {K : Type 0} → Seals → State K → Act → (ℕ → InPlain) → ℕ → InPlain
 plain_by seals old (client event outcome) plain = plain_after seals old event outcome plain
 plain_by seals old (worker worked) plain = plain
 
-abbrev pub answered_of : {K : Type 0} → State K → Act → (ℕ → List ℕ) → List Answered
+abbrev pub answered_of : {K : Type 0} → State K → Act → (ℕ → InPlain) → List Answered
 answered_of old (client event outcome) plain = answered_by old event outcome plain
 answered_of old (worker worked) plain = []
 
-unfoldable pub plain_over : {K : Type 0} → Seals → State K → (ℕ → List ℕ) → List (Deed K) → ℕ
-    → List ℕ
+unfoldable pub plain_over : {K : Type 0} → Seals → State K → (ℕ → InPlain) → List (Deed K) → ℕ
+    → InPlain
 plain_over seals old plain [] = plain
 plain_over seals old plain (one ∷ rest) =
     plain_over seals one.after (plain_by seals old one.act plain) rest
 
-unfoldable pub answered_over : {K : Type 0} → Seals → State K → (ℕ → List ℕ) → List (Deed K)
+unfoldable pub answered_over : {K : Type 0} → Seals → State K → (ℕ → InPlain) → List (Deed K)
     → List Answered
 answered_over seals old plain [] = []
 answered_over seals old plain (one ∷ rest) =

@@ -10,6 +10,8 @@ pub data Event : Type 0 where
   asks : (lane : ℕ) → Event
   -- a lane reads its next piece, of so many bytes
   reads : (lane len : ℕ) → Event
+  -- a lane reads an edge of its write, the first of them or the second
+  fetches : (lane which : ℕ) → Event
   -- a lane writes its next piece, sealed
   writes : (lane : ℕ) (sealed : List ℕ) → Event
   -- a lane waits until what was written is certain to be kept
@@ -22,6 +24,7 @@ abbrev pub lane_of : Event → ℕ
 lane_of (admits lane session ask) = lane
 lane_of (asks lane) = lane
 lane_of (reads lane len) = lane
+lane_of (fetches lane which) = lane
 lane_of (writes lane sealed) = lane
 lane_of (settles lane) = lane
 lane_of (finishes lane) = lane

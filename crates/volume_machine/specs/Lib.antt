@@ -4,6 +4,7 @@ pub mod Asks
 pub mod Beginnings
 pub mod Courses
 pub mod Deeds
+pub mod Edges
 pub mod Effects
 pub mod Events
 pub mod Fronts

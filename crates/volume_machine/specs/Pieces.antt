@@ -47,7 +47,11 @@ pub record ArePieceBytes (map : Map) (piece : Piece) (bytes : List ℕ) : Type 0
   pub size : length bytes ≡ size_of_piece map piece
   pub are_bytes : AreBytes bytes
 
--- the operation after a piece was made, after a failure, and once it is settled
+-- the operation after an edge was read, after a piece was made, after a failure, and once it is
+-- settled
+abbrev pub fetching : Open → Open
+fetching o = record o { fetched = o.fetched + 1 }
+
 abbrev pub moved : Open → Piece → Open
 moved o piece = record o { next = piece.first + piece.count }
 

@@ -36,6 +36,7 @@ begun atom session ask = record {
   session = session;
   ask = ask;
   range = range_of atom ask;
+  fetched = 0;
   next = (range_of atom ask).start;
   settled = false;
   failed = false;

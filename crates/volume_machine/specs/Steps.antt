@@ -1,6 +1,6 @@
 -- One event: what it asks of the state before, and what it leaves.
-use Rattle.std.specs.Prelude.{ℕ, ◌≡◌, ◌<◌, ◌⊎◌, Bool, true, false, List, [], ◌∷◌, ◌++◌, Option}
-use Rattle.std.specs.Prelude.{Some, None, MatchOption, if◌then◌else◌, Result}
+use Rattle.std.specs.Prelude.{ℕ, ◌≡◌, ◌<◌, ◌⊎◌, Bool, true, false, List, [], ◌∷◌, ◌++◌, length}
+use Rattle.std.specs.Prelude.{Option, Some, None, MatchOption, if◌then◌else◌, Result}
 use Rattle.std.specs.Bool.{MatchBool}
 use Rattle.base_terms.specs.ErrorNumbers.{device_error}
 use Rattle.base_terms.specs.declared.failed.Failed.{Failed}
@@ -13,12 +13,14 @@ use Rattle.segment_map.specs.declared.map.Map.{Map}
 use Rattle.segment_map.specs.declared.map.Piece.{Piece}
 use Rattle.volume_machine.specs.Asks.{IsRead, IsWrite, IsForced, range_of, has_lock, wrong_ask}
 use Rattle.volume_machine.specs.Asks.{entry_of}
+use Rattle.volume_machine.specs.Edges.{edges_of, edge_at}
 use Rattle.sector_disk.specs.Devices.{ReadCall, WriteCall, SyncCall, succeeded, failed_call}
-use Rattle.volume_machine.specs.Events.{Event, admits, asks, reads, writes, settles, finishes}
-use Rattle.volume_machine.specs.Events.{lane_of, Outcome, held, waits, refused, got, done, device}
-use Rattle.volume_machine.specs.Events.{broken}
-use Rattle.volume_machine.specs.Pieces.{IsPieceOf, place_of, size_of_piece, ArePieceBytes, moved}
-use Rattle.volume_machine.specs.Pieces.{failing, settling, IsComplete}
+use Rattle.sector_disk.specs.DiskViews.Parts.{AreBlocks}
+use Rattle.volume_machine.specs.Events.{Event, admits, asks, reads, fetches, writes, settles}
+use Rattle.volume_machine.specs.Events.{finishes, lane_of, Outcome, held, waits, refused, got, done}
+use Rattle.volume_machine.specs.Events.{device, broken}
+use Rattle.volume_machine.specs.Pieces.{IsPieceOf, place_in, place_of, size_of_piece, ArePieceBytes}
+use Rattle.volume_machine.specs.Pieces.{fetching, moved, failing, settling, IsComplete}
 use Rattle.volume_machine.specs.States.{State, open_at, size_of, begun, IsClient, LaneBecomes}
 use Rattle.volume_machine.specs.declared.ask.Ask.{Ask}
 use Rattle.volume_machine.specs.declared.ask.Ask.TheVariants.{Flush}
@@ -118,6 +120,32 @@ ReadStep old lane o device new = MissesPiece old lane o new
 ReadStep old lane o broken new = FindsBroken old lane (Some (failing o)) new
 ReadStep old lane o _ new = ⊥
 
+-- an edge was read
+pub record GetsEdge {K : Type 0} (old : State K) (lane : ℕ) (o : Open) (which : ℕ)
+    (bytes : List ℕ) (new : State K) : Type 0 where
+  pub was : old.broken ≡ false
+  pub some : which < length (edges_of old.map.atom o.ask)
+  pub are : AreBlocks old.map.atom 1 bytes
+  pub call : ReadCall old.map.atom (place_in old.map (edge_at old.map.atom o.ask which)) bytes
+      old.disk new.disk succeeded
+  pub goes : Goes old new lane old.entries (Some (fetching o)) false
+
+-- a read of an edge failed, which breaks nothing
+pub record MissesEdge {K : Type 0} (old : State K) (lane : ℕ) (o : Open) (which : ℕ)
+    (new : State K) : Type 0 where
+  pub was : old.broken ≡ false
+  pub some : which < length (edges_of old.map.atom o.ask)
+  pub bytes : List ℕ
+  pub call : ReadCall old.map.atom (place_in old.map (edge_at old.map.atom o.ask which)) bytes
+      old.disk new.disk failed_call
+  pub goes : Goes old new lane old.entries (Some (failing o)) false
+
+abbrev pub EdgeStep : {K : Type 0} → State K → ℕ → Open → ℕ → Outcome → State K → Type 0
+EdgeStep old lane o which (got bytes) new = GetsEdge old lane o which bytes new
+EdgeStep old lane o which device new = MissesEdge old lane o which new
+EdgeStep old lane o which broken new = FindsBroken old lane (Some (failing o)) new
+EdgeStep old lane o which _ new = ⊥
+
 -- a piece was written, or a write of it failed, which breaks the volume
 pub record PutsPiece {K : Type 0} (old : State K) (lane : ℕ) (o : Open) (bytes : List ℕ)
     (result : Result (Unit {0}) Failed) (after : Piece → Open) (is_broken : Bool)
@@ -174,6 +202,8 @@ Step old (asks lane) outcome new =
     Has old lane (λ o. TellsStanding old o.range (IsStandingOf lane old.entries) outcome) ×
     (new ≡ old)
 Step old (reads lane len) outcome new = Has old lane (λ o. ReadStep old lane o outcome new)
+Step old (fetches lane which) outcome new =
+    Has old lane (λ o. EdgeStep old lane o which outcome new)
 Step old (writes lane bytes) outcome new =
     Has old lane (λ o. WriteStep old lane o bytes outcome new)
 Step old (settles lane) outcome new = Has old lane (λ o. SettleStep old lane o outcome new)
@@ -196,9 +226,18 @@ pub record CanRead (map : Map) (len : ℕ) (o : Open) : Type 0 where
   pub next : IsPieceOf map o piece
   pub size : len ≡ size_of_piece map piece
 
--- a write whose next piece these bytes are
+-- a write that has made no piece yet, whose next edge this is
+pub record CanFetch (map : Map) (which : ℕ) (o : Open) : Type 0 where
+  pub writes : IsWrite o.ask
+  pub goes_on : o.failed ≡ false
+  pub begins : o.next ≡ o.range.start
+  pub next : which ≡ o.fetched
+  pub some : which < length (edges_of map.atom o.ask)
+
+-- a write whose edges were read, and whose next piece these bytes are
 pub record CanWrite (map : Map) (bytes : List ℕ) (o : Open) : Type 0 where
   pub writes : IsWrite o.ask
+  pub edges : o.fetched ≡ length (edges_of map.atom o.ask)
   pub has : HasPiece o
   pub piece : Piece
   pub next : IsPieceOf map o piece
@@ -219,6 +258,7 @@ unfoldable pub Can : {K : Type 0} → State K → Event → Type 0
 Can state (admits lane session ask) = open_at state.lanes lane ≡ None
 Can state (asks lane) = Has state lane (λ o. has_lock o.ask ≡ true)
 Can state (reads lane len) = Has state lane (CanRead state.map len) × Holds state lane
+Can state (fetches lane which) = Has state lane (CanFetch state.map which) × Holds state lane
 Can state (writes lane bytes) = Has state lane (CanWrite state.map bytes) × Holds state lane
 Can state (settles lane) = Has state lane CanSettle
 Can state (finishes lane) = Has state lane CanFinish × Holds state lane

@@ -3,8 +3,10 @@
 ghost use Rattle.std.specs.Prelude.{◌≡◌, ◌+◌, ◌*◌, ◌^◌, ◌<◌, ◌≤◌, length};
 ghost use Rattle.sector_disk.specs.Geometry.{IsAtom};
 
+use crate::Sealers;
 use cipher_laws::SectorCipher;
 use segment_map::{Piece, Side};
+use std::thread::Threads;
 
 /// The keys of a volume: each side's cipher, and the IV number of the first 512 bytes of its
 /// segment. An open zone is the old segment's.
@@ -17,7 +19,7 @@ pub struct Keys<C> {
 }
 
 impl<C: SectorCipher> Keys<C> {
-    ghost use Rattle.volume_machine.specs.Seals.{KeysFit, key_of, tweak_of, number_of, seals_of};
+    ghost use Rattle.volume_machine.specs.Seals.{KeysFit, key_of, tweak_of, number_of};
 
     /// The key of a side.
     pub fn key(&self, side: Side) -> &C
@@ -41,10 +43,21 @@ impl<C: SectorCipher> Keys<C> {
         };
         tweak + piece.first * u64::from(atom / 512)
     }
+}
+
+impl<C: SectorCipher + Sync> Keys<C> {
+    ghost use Rattle.volume_machine.specs.Seals.{KeysFit, seals_of};
 
     /// Opens the bytes of a piece where they lie, as a volume with these keys and blocks of `atom`
-    /// bytes has sealed them.
-    pub fn unseal(&self, atom: u32, piece: Piece, bytes: &mut [u8])
+    /// bytes has sealed them. Threads take a part of a piece of 256 KiB and more.
+    pub fn unseal<R: Threads + Sync>(
+        &self,
+        rt: &R,
+        sealers: &Sealers,
+        atom: u32,
+        piece: Piece,
+        bytes: &mut [u8],
+    )
         requires known { IsAtom atom }
         requires fits { KeysFit C.sector self.now atom (piece.first + piece.count) }
         requires size { length bytes.old ≡ piece.count * atom }
@@ -52,11 +65,19 @@ impl<C: SectorCipher> Keys<C> {
             ≡ (seals_of C.sealed C.opened atom self.now).opened piece.side piece.first bytes.old }
     {
         let number = self.number(atom, piece);
-        self.key(piece.side).unseal_atom(number, bytes);
+        sealers.unseal(rt, self.key(piece.side), number, atom as usize, bytes);
     }
 
-    /// Seals the bytes of a piece where they lie.
-    pub fn seal(&self, atom: u32, piece: Piece, bytes: &mut [u8])
+    /// Seals the bytes of a piece where they lie. Threads take a part of a piece of 256 KiB and
+    /// more.
+    pub fn seal<R: Threads + Sync>(
+        &self,
+        rt: &R,
+        sealers: &Sealers,
+        atom: u32,
+        piece: Piece,
+        bytes: &mut [u8],
+    )
         requires known { IsAtom atom }
         requires fits { KeysFit C.sector self.now atom (piece.first + piece.count) }
         requires size { length bytes.old ≡ piece.count * atom }
@@ -64,6 +85,6 @@ impl<C: SectorCipher> Keys<C> {
             ≡ (seals_of C.sealed C.opened atom self.now).sealed piece.side piece.first bytes.old }
     {
         let number = self.number(atom, piece);
-        self.key(piece.side).seal_atom(number, bytes);
+        sealers.seal(rt, self.key(piece.side), number, atom as usize, bytes);
     }
 }

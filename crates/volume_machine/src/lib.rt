@@ -12,6 +12,7 @@ mod keys;
 mod laws;
 mod open;
 mod prepared;
+mod sealers;
 
 pub use ask::Ask;
 pub use grant::Grant;
@@ -19,3 +20,4 @@ pub use keys::Keys;
 pub use laws::{events_have_effects, volumes_stay_sound};
 pub use open::{Open, open_of, set_lane};
 pub use prepared::Prepared;
+pub use sealers::Sealers;

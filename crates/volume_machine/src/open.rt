@@ -6,20 +6,22 @@ use crate::Ask;
 use base_terms::BlockRange;
 use segment_map::Piece;
 
-/// The operation of a lane under way: the session that asked for it, its blocks, the first of them
-/// that no piece has covered yet, whether it was settled, and whether one of its events failed.
+/// The operation of a lane under way: the session that asked for it, its blocks, how many of its
+/// edges were read, the first of its blocks that no piece has covered yet, whether it was settled,
+/// and whether one of its events failed.
 #[derive(Clone, Copy, PartialEq, Eq)]
 pub struct Open {
     pub session: u64,
     pub ask: Ask,
     pub range: BlockRange,
+    pub fetched: u32,
     pub next: u64,
     pub settled: bool,
     pub failed: bool,
 }
 
 impl Open {
-    ghost use Rattle.volume_machine.specs.Pieces.{rest_of, moved, failing, settling};
+    ghost use Rattle.volume_machine.specs.Pieces.{rest_of, fetching, moved, failing, settling};
     ghost use Rattle.volume_machine.specs.Steps.{after_settle};
 
     /// An operation of a session on these blocks that has just begun.
@@ -28,6 +30,7 @@ impl Open {
           session = session;
           ask = ask;
           range = range;
+          fetched = 0;
           next = range.start;
           settled = false;
           failed = false;
@@ -37,6 +40,7 @@ impl Open {
             session,
             ask,
             range,
+            fetched: 0,
             next: range.start,
             settled: false,
             failed: false,
@@ -50,6 +54,17 @@ impl Open {
         BlockRange {
             start: self.next,
             end: self.range.end,
+        }
+    }
+
+    /// The operation after an edge was read.
+    pub fn fetching(self) -> Open
+        requires { self.fetched + 1 < 2 ^ 32 }
+        ensures { result ≡ fetching self }
+    {
+        Open {
+            fetched: self.fetched + 1,
+            ..self
         }
     }
 

@@ -5,11 +5,12 @@ ghost use Rattle.cipher_laws.specs.Bytes.{AreBytes};
 ghost use Rattle.sector_disk.specs.Geometry.{IsAtom};
 ghost use Rattle.volume_machine.specs.Seals.{KeysFit, seals_of};
 
-use crate::Keys;
+use crate::{Keys, Sealers};
 use base_terms::{Buffer, bytes_are_below_256};
 use cipher_laws::SectorCipher;
 use segment_map::Piece;
 use std::marker::Model;
+use std::thread::Threads;
 
 /// The bytes of a piece of a write, sealed, at the front of a buffer. Sealing needs no volume, so
 /// that a lane may do it while others use the volume.
@@ -32,9 +33,12 @@ impl Model for Prepared {
 
 impl Prepared {
     /// Seals the bytes of a piece where they lie, at the front of a buffer, with the keys of its
-    /// volume, whose blocks have `atom` bytes. It takes no memory.
+    /// volume, whose blocks have `atom` bytes. It takes no memory. Threads take a part of a piece of
+    /// 256 KiB and more.
     #[inline(always)]
-    pub fn seal<C: SectorCipher>(
+    pub fn seal<R: Threads + Sync, C: SectorCipher + Sync>(
+        rt: &R,
+        sealers: &Sealers,
         keys: &Keys<C>,
         atom: u32,
         piece: Piece,
@@ -52,7 +56,7 @@ impl Prepared {
         ensures room { result.room ≡ length buffer }
     {
         let mut buffer = buffer;
-        seal_front(keys, atom, piece, buffer.as_mut_slice(), len);
+        seal_front(rt, sealers, keys, atom, piece, buffer.as_mut_slice(), len);
         bytes_are_below_256(buffer.front(len));
         Prepared { buffer, len }
     }
@@ -76,7 +80,9 @@ impl Prepared {
 
 /// Seals the bytes of a piece at the front of others.
 #[inline(always)]
-fn seal_front<C: SectorCipher>(
+fn seal_front<R: Threads + Sync, C: SectorCipher + Sync>(
+    rt: &R,
+    sealers: &Sealers,
     keys: &Keys<C>,
     atom: u32,
     piece: Piece,
@@ -91,5 +97,5 @@ fn seal_front<C: SectorCipher>(
         piece.side piece.first (take len bytes.old) }
     ensures length { length bytes.new ≡ length bytes.old }
 {
-    keys.seal(atom, piece, &mut bytes[..len]);
+    keys.seal(rt, sealers, atom, piece, &mut bytes[..len]);
 }

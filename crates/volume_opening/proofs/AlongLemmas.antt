@@ -42,6 +42,7 @@ use Rattle.volume_laws.specs.Promises.{GoesByEvents}
 use Rattle.volume_laws.specs.Rest.{KeepsRest}
 use Rattle.volume_machine.proofs.NextPieces.{on_disk}
 use Rattle.volume_machine.specs.Beginnings.{IsFresh}
+use Rattle.volume_machine.specs.Edges.{InPlain}
 use Rattle.volume_machine.specs.Pieces.{place_in, side_in}
 use Rattle.volume_machine.specs.Runs.{Happening, IsRun, last_of}
 use Rattle.volume_machine.specs.Seals.{Seals, seals_of}
@@ -182,7 +183,7 @@ module _ {C : Type 0} (sector : C → ℕ) (sealed opened : C → ℕ → List �
     -- one stop, and one image of it
     module _ (earlier later : List (Happening (Keys C))) (run : IsRun volume (earlier ++ later))
         (now : Told) (told_now : (last_of volume earlier).disk.told ≡ Some now)
-        (plain : ℕ → List ℕ) (blocks : List Block)
+        (plain : ℕ → InPlain) (blocks : List Block)
         (allowed : StopsAllowed (last_of volume earlier) seals plain blocks now.now)
         (image : List (List ℕ)) (is_image : IsImage now.now image) where
       abbrev last : State (Keys C)

@@ -9,6 +9,7 @@ use Rattle.reenc_recovery.specs.Placings.{RestsIn}
 use Rattle.sector_disk.specs.Cells.{Cell, IsImage}
 use Rattle.sector_disk.specs.Steps.{Told}
 use Rattle.volume_laws.specs.Contents.{IsAllowedAt, StopsAllowed}
+use Rattle.volume_machine.specs.Edges.{InPlain}
 use Rattle.volume_machine.specs.Runs.{Happening, last_of}
 use Rattle.volume_machine.specs.Seals.{Seals}
 use Rattle.volume_machine.specs.States.{State}
@@ -16,7 +17,7 @@ use Rattle.volume_machine.specs.States.{State}
 -- Each image of a table stands under the passphrase, by the header and the keyslots that it has
 -- itself, for a content in which each block has a value that is allowed; and by that header nothing
 -- is being converted.
-abbrev pub StandsAllowed : {K : Type 0} → Sizes → List ℕ → State K → (ℕ → List ℕ) → List Block
+abbrev pub StandsAllowed : {K : Type 0} → Sizes → List ℕ → State K → (ℕ → InPlain) → List Block
     → List Cell → Type 0
 StandsAllowed sizes pass state plain blocks cells = (image : List (List ℕ)) → IsImage cells image →
     (content : List (List ℕ)) × StandsFor sizes pass (joined image) content
@@ -29,6 +30,6 @@ abbrev pub StandsAlong : {K : Type 0} → Sizes → List ℕ → State K → Sea
     → Type 0
 StandsAlong {K} sizes pass start seals run = (earlier later : List (Happening K)) →
     run ≡ earlier ++ later → (told : Told) → (last_of start earlier).disk.told ≡ Some told →
-    (plain : ℕ → List ℕ) (blocks : List Block) →
+    (plain : ℕ → InPlain) (blocks : List Block) →
     StopsAllowed (last_of start earlier) seals plain blocks told.now →
     StandsAllowed sizes pass (last_of start earlier) plain blocks told.now

@@ -9,7 +9,8 @@ use crate::buffers::{put, taken, unseal_front};
 use base_terms::{Buffer, bytes_are_below_256};
 use cipher_laws::SectorCipher;
 use segment_map::{Map, Piece};
-use volume_machine::{Ask, Keys, Prepared};
+use std::thread::Threads;
+use volume_machine::{Ask, Keys, Prepared, Sealers};
 
 impl Plan {
     ghost use Rattle.std.specs.Prelude.{◌≡◌, ◌↔◌, ◌+◌, ◌-◌, ◌*◌, ◌<◌, ◌≤◌, ◌⊎◌, ◌^◌, [], false};
@@ -28,7 +29,13 @@ impl Plan {
 
     /// The next call of an operation all of whose pieces so far were made.
     #[inline(always)]
-    pub(super) fn go_on<C: SectorCipher>(&mut self, keys: &Keys<C>, map: Map) -> Call
+    pub(super) fn go_on<R: Threads + Sync, C: SectorCipher + Sync>(
+        &mut self,
+        rt: &R,
+        sealers: &Sealers,
+        keys: &Keys<C>,
+        map: Map,
+    ) -> Call
         requires fits { KeysFit C.sector keys.now self.old.shape.atom self.old.shape.blocks }
         requires back { (op : Op) × (alone : Alone) × IsBack self.old op alone map }
         ensures awaits { (op : Op) (alone : Alone) → IsBack self.old op alone map →
@@ -50,7 +57,7 @@ impl Plan {
             Ask::Read { .. } => Call::Read(self.lent(piece), len),
             Ask::Write { .. } => {
                 let from = self.source_of(piece);
-                Call::Write(self.prepared(keys, piece, from, len))
+                Call::Write(self.prepared(rt, sealers, keys, piece, from, len))
             }
             Ask::Flush => unreachable!(),
         }
@@ -102,8 +109,10 @@ impl Plan {
     /// The next piece of a body or of zeros, which begins at byte `from` of the whole buffer,
     /// sealed.
     #[inline(always)]
-    fn prepared<C: SectorCipher>(
+    fn prepared<R: Threads + Sync, C: SectorCipher + Sync>(
         &mut self,
+        rt: &R,
+        sealers: &Sealers,
         keys: &Keys<C>,
         piece: Piece,
         from: usize,
@@ -129,7 +138,7 @@ impl Plan {
     {
         let buffer = self.filled(piece, from, len);
         bytes_are_below_256(buffer.front(len));
-        Prepared::seal(keys, self.shape.atom, piece, buffer, len)
+        Prepared::seal(rt, sealers, keys, self.shape.atom, piece, buffer, len)
     }
 
     /// The buffer of a piece of a body, with its bytes at the front.
@@ -178,8 +187,10 @@ impl Plan {
 
     /// The next call once a piece was read.
     #[inline(always)]
-    pub(super) fn got<C: SectorCipher>(
+    pub(super) fn got<R: Threads + Sync, C: SectorCipher + Sync>(
         &mut self,
+        rt: &R,
+        sealers: &Sealers,
         keys: &Keys<C>,
         buffer: Buffer,
         len: usize,
@@ -198,10 +209,10 @@ impl Plan {
             unreachable!()
         };
         let mut buffer = buffer;
-        unseal_front(keys, self.shape.atom, piece, &mut buffer, len);
+        unseal_front(rt, sealers, keys, self.shape.atom, piece, &mut buffer, len);
         self.take_in(piece, buffer, len);
         self.operation = self.operation.moved(piece);
-        self.go_on(keys, map)
+        self.go_on(rt, sealers, keys, map)
     }
 
     /// Puts an opened piece behind those before it. One that is all of the operation lies where it
@@ -228,7 +239,13 @@ impl Plan {
 
     /// The next call once a piece was written.
     #[inline(always)]
-    pub(super) fn written<C: SectorCipher>(&mut self, keys: &Keys<C>, buffer: Buffer) -> Call
+    pub(super) fn written<R: Threads + Sync, C: SectorCipher + Sync>(
+        &mut self,
+        rt: &R,
+        sealers: &Sealers,
+        keys: &Keys<C>,
+        buffer: Buffer,
+    ) -> Call
         requires fits { KeysFit C.sector keys.now self.old.shape.atom self.old.shape.blocks }
         requires told { IsTold (seals_of C.sealed C.opened self.old.shape.atom keys.now)
             self.old (Answers.Written buffer) }
@@ -244,7 +261,7 @@ impl Plan {
         };
         self.put_back(piece, buffer);
         self.operation = self.operation.moved(piece);
-        self.go_on(keys, map)
+        self.go_on(rt, sealers, keys, map)
     }
 
     /// Keeps the buffer of a piece that was written.

@@ -9,6 +9,7 @@ use Rattle.sector_disk.proofs.DiskViews.TableEntries.{none_contained}
 use Rattle.sector_disk.specs.DiskViews.Parts.{value_in}
 use Rattle.plain_disk.specs.Plain.{Block, settled, settled_blocks, values_of}
 use Rattle.volume_laws.specs.Contents.{IsAllowedAt, IsNow, IsTriedBy, block_in}
+use Rattle.volume_machine.specs.Edges.{InPlain}
 use Rattle.volume_machine.specs.Runs.{no_plain}
 use Rattle.volume_machine.specs.States.{IsIdle, State}
 
@@ -37,7 +38,7 @@ module _ {K : Type 0} (state : State K) (values : List (List ℕ)) (left : List 
   in-left = ap (λ blocks. block_in blocks b) same ∙ settled-in values b
 
   -- with no operation under way
-  pub now-settled : (plain : ℕ → List ℕ) → IsIdle state → IsNow state plain left b value
+  pub now-settled : (plain : ℕ → InPlain) → IsIdle state → IsNow state plain left b value
       → value ≡ value_in values b
   now-settled plain idle is =
       elim is as (λ _. value ≡ value_in values b) [
@@ -46,17 +47,17 @@ module _ {K : Type 0} (state : State K) (values : List (List ℕ)) (left : List 
       ]
 
   -- with nothing in plain
-  tried-none : (plain : ℕ → List ℕ) → plain ≡ no_plain → (lane : ℕ)
+  tried-none : (plain : ℕ → InPlain) → plain ≡ no_plain → (lane : ℕ)
       → IsTriedBy state plain lane b value → ⊥
   tried-none plain none lane is =
-      let long : length (plain lane) ≡ 0 = ap (λ p. length (p lane)) none in
+      let long : length (plain lane).bytes ≡ 0 = ap (λ p. length (p lane).bytes) none in
       let some = state.map.some_atom in
       let tried = is.tried in
       let more : 1 ≤ suc (b - is.o.range.start) = omega arith in
       let least = mul-le-mul_right state.map.atom more in
       omega (arith, long, some, tried, least)
 
-  pub allowed-settled : (plain : ℕ → List ℕ) → plain ≡ no_plain
+  pub allowed-settled : (plain : ℕ → InPlain) → plain ≡ no_plain
       → IsAllowedAt state plain left b value → value ≡ value_in values b
   allowed-settled plain none is =
       elim is as (λ _. value ≡ value_in values b) [

@@ -24,6 +24,7 @@ use Rattle.volume_laws.specs.Imaging.{StopsBeside}
 use Rattle.volume_laws.specs.Standing.{AtomStands, BlockStands, Content, Stands, StandsByHeader}
 use Rattle.volume_laws.specs.Standing.{StandsUnder}
 use Rattle.volume_machine.specs.Deeds.{AreDeeds, Deed, plain_over, state_after}
+use Rattle.volume_machine.specs.Edges.{InPlain}
 use Rattle.volume_machine.specs.Pieces.{place_in, side_in}
 use Rattle.volume_machine.specs.Readings.{Reading}
 use Rattle.volume_machine.specs.Runs.{no_plain}
@@ -62,7 +63,7 @@ new-sealed reading map seals work image content b side same stands =
 
 module _ {K : Type 0} (reading : Reading) (seals : Seals) (layout : Layout)
     (header : Header (List ℕ)) (content : List (List ℕ)) (left : List Block)
-    (same : left ≡ settled_blocks content) (plain : ℕ → List ℕ) (state : State K) (now : List ℕ)
+    (same : left ≡ settled_blocks content) (plain : ℕ → InPlain) (state : State K) (now : List ℕ)
     (e : AtEnd reading layout header (length content) state) where
   abbrev image : Image
   image = λ place. block_at state.map.atom now place

@@ -4,6 +4,7 @@ use Rattle.std.proofs.Common.{◌≡◌, ◌++◌, ◌∷◌, ◌∙◌, ℕ, Li
 use Rattle.volume_machine.specs.Answers.{AreExchanges}
 use Rattle.volume_machine.specs.Deeds.{Act, AreDeeds, Deed, Does, answered_over, plain_over}
 use Rattle.volume_machine.specs.Deeds.{state_after, worker}
+use Rattle.volume_machine.specs.Edges.{InPlain}
 use Rattle.volume_machine.specs.Readings.{Reading}
 use Rattle.volume_machine.specs.Seals.{Seals}
 use Rattle.volume_machine.specs.States.{State}
@@ -36,7 +37,7 @@ works-front (one ∷ earlier) later (w ∷ works, same) =
     (w ∷ front, (let first : one.act ≡ worker w = head-same same in cc))
 
 -- ---- what they answer, and have in plain
-pub answers-none : {K : Type 0} (seals : Seals) (old : State K) (plain : ℕ → List ℕ)
+pub answers-none : {K : Type 0} (seals : Seals) (old : State K) (plain : ℕ → InPlain)
     (deeds : List (Deed K)) → AreWorks deeds → answered_over seals old plain deeds ≡ []
 unfolding answered_over
 answers-none seals old plain [] are = refl
@@ -45,14 +46,14 @@ answers-none seals old plain (one ∷ rest) (w ∷ works, same) =
     let first : one.act ≡ worker w = head-same same in
     rw first (answers-none seals one.after plain rest (works, tail-same same))
 
-pub exchanges-none : {K : Type 0} (seals : Seals) (old : State K) (plain : ℕ → List ℕ)
+pub exchanges-none : {K : Type 0} (seals : Seals) (old : State K) (plain : ℕ → InPlain)
     (deeds : List (Deed K)) → AreWorks deeds
     → AreExchanges (answered_over seals old plain deeds) []
 unfolding AreExchanges
 exchanges-none seals old plain deeds are =
     subst (λ answered. AreExchanges answered []) (sym (answers-none seals old plain deeds are)) tt
 
-pub plain-stays : {K : Type 0} (seals : Seals) (old : State K) (plain : ℕ → List ℕ)
+pub plain-stays : {K : Type 0} (seals : Seals) (old : State K) (plain : ℕ → InPlain)
     (deeds : List (Deed K)) → AreWorks deeds → plain_over seals old plain deeds ≡ plain
 unfolding plain_over
 plain-stays seals old plain [] are = refl

@@ -4,9 +4,9 @@ use Rattle.std.proofs.Common.{MatchOption, ap, if◌then◌else◌, replicate}
 use Rattle.std.proofs.lemmas.List.{length-map}
 use Rattle.base_terms.specs.Blocks.{blocks_of}
 use Rattle.sector_disk.proofs.DiskViews.Entries.{length-changed}
-use Rattle.plain_disk.specs.Operations.{wrong_of}
-use Rattle.plain_disk.specs.Plain.{Block, Exchange, Legal, ProperStep, Step, WriteStep, flushed}
-use Rattle.plain_disk.specs.Plain.{tried, written, written_for_good}
+use Rattle.plain_disk.specs.Operations.{touched, wrong_of}
+use Rattle.plain_disk.specs.Plain.{Block, Exchange, Legal, ProperStep, Step, WriteStep, edged}
+use Rattle.plain_disk.specs.Plain.{flushed, newest_bytes, tried, written, written_for_good}
 use Rattle.plain_disk.specs.declared.operation.Op.{Op}
 use Rattle.plain_disk.specs.declared.operation.Op.TheVariants.{Flush, Read, Write, Zeroes}
 use Rattle.plain_disk.specs.declared.operation.Reply.{Reply}
@@ -20,10 +20,12 @@ module _ (atom : ℕ) (old new : List Block) where
   write-count offset body fua Done n step =
       ap length step.1
       ∙ length-changed (if fua then written_for_good else written) old (offset / atom)
-      (blocks_of atom (n / atom) body)
+      (blocks_of atom (touched atom offset (length body))
+      (edged atom (newest_bytes old) offset body))
   write-count offset body fua (Errno number) n (is, most, whole, same) =
       ap length same
-      ∙ length-changed tried old (offset / atom) (blocks_of atom (n / atom) body)
+      ∙ length-changed tried old (offset / atom)
+      (blocks_of atom (n / atom) (edged atom (newest_bytes old) offset body))
   write-count offset body fua (ErrnoAt number place) n step = absurd step
 
   proper-count : (op : Op) (reply : Reply) (n : ℕ) → ProperStep atom old op reply n new

@@ -12,12 +12,13 @@ use Rattle.recovery_laws.specs.Served.Clients.{happening_without_work, without_w
 use Rattle.recovery_laws.specs.Served.Serving.{ClientsLeaveWork}
 use Rattle.volume_machine.specs.Answers.{AreTagged, Answered}
 use Rattle.volume_machine.specs.Asks.{entry_of, has_lock, range_of, wrong_ask}
-use Rattle.volume_machine.specs.Events.{Event, Outcome, admits, asks, broken, device, done, finishes}
-use Rattle.volume_machine.specs.Events.{got, held, reads, refused, settles, waits, writes}
+use Rattle.volume_machine.specs.Edges.{InPlain}
+use Rattle.volume_machine.specs.Events.{Event, Outcome, admits, asks, broken, device, done, fetches}
+use Rattle.volume_machine.specs.Events.{finishes, got, held, reads, refused, settles, waits, writes}
 use Rattle.volume_machine.specs.Runs.{Happening, IsRun, answered_by, answered_in, last_of, plain_after}
 use Rattle.volume_machine.specs.Seals.{Seals}
 use Rattle.volume_machine.specs.States.{State, size_of}
-use Rattle.volume_machine.specs.Steps.{AdmitStep, Can, FindsBroken}
+use Rattle.volume_machine.specs.Steps.{AdmitStep, Can, EdgeStep, FindsBroken}
 use Rattle.volume_machine.specs.Steps.{Goes, IsAdmitted, Meets, PutsPiece, ReadStep}
 use Rattle.volume_machine.specs.Steps.{SettleStep, Step, Syncs, TellsStanding, WriteStep}
 use Rattle.volume_machine.specs.declared.ask.Ask.{Ask}
@@ -42,6 +43,7 @@ module _ {K : Type 0} where
   can-without s (admits lane session ask) is = is
   can-without s (asks lane) is = is
   can-without s (reads lane len) is = is
+  can-without s (fetches lane which) is = is
   can-without s (writes lane bytes) is = is
   can-without s (settles lane) is = is
   can-without s (finishes lane) is = is
@@ -138,6 +140,29 @@ module _ {K : Type 0} where
   read-without old lane o (refused number) new is = absurd is
   read-without old lane o done new is = absurd is
 
+  fetch-without : (old : State K) (lane : ℕ) (o : Open) (which : ℕ) (outcome : Outcome)
+      (new : State K) → EdgeStep old lane o which outcome new
+      → EdgeStep (without_work old) lane o which outcome (without_work new)
+  fetch-without old lane o which (got bytes) new is = record {
+    was = is.was;
+    some = is.some;
+    are = is.are;
+    call = is.call;
+    goes = goes-without old new lane _ _ _ is.goes;
+  }
+  fetch-without old lane o which device new is = record {
+    was = is.was;
+    some = is.some;
+    bytes = is.bytes;
+    call = is.call;
+    goes = goes-without old new lane _ _ _ is.goes;
+  }
+  fetch-without old lane o which broken new is = finds-without old lane _ new is
+  fetch-without old lane o which (held grant) new is = absurd is
+  fetch-without old lane o which (waits other) new is = absurd is
+  fetch-without old lane o which (refused number) new is = absurd is
+  fetch-without old lane o which done new is = absurd is
+
   puts-without : (old : State K) (lane : ℕ) (o : Open) (bytes : List ℕ)
       (result : Result (Unit {0}) Failed) (after : Piece → Open) (is_broken : Bool) (new : State K)
       → PutsPiece old lane o bytes result after is_broken new
@@ -191,6 +216,8 @@ module _ {K : Type 0} where
   )
   step-without old (reads lane len) outcome new (o, here, is) =
       (o, here, read-without old lane o outcome new is)
+  step-without old (fetches lane which) outcome new (o, here, is) =
+      (o, here, fetch-without old lane o which outcome new is)
   step-without old (writes lane bytes) outcome new (o, here, is) =
       (o, here, write-without old lane o bytes outcome new is)
   step-without old (settles lane) outcome new (o, here, is) =
@@ -219,7 +246,7 @@ module _ {K : Type 0} where
   last-without old (one ∷ rest) = last-without one.after rest
 
   plain-without : (seals : Seals) (old : State K) (event : Event) (outcome : Outcome)
-      (plain : ℕ → List ℕ) → plain_after seals (without_work old) event outcome plain
+      (plain : ℕ → InPlain) → plain_after seals (without_work old) event outcome plain
       ≡ plain_after seals old event outcome plain
   unfolding plain_after
   plain-without seals old (admits lane session ask) outcome plain = refl
@@ -231,6 +258,13 @@ module _ {K : Type 0} where
   plain-without seals old (reads lane len) done plain = refl
   plain-without seals old (reads lane len) device plain = refl
   plain-without seals old (reads lane len) broken plain = refl
+  plain-without seals old (fetches lane which) (got bytes) plain = refl
+  plain-without seals old (fetches lane which) (held grant) plain = refl
+  plain-without seals old (fetches lane which) (waits other) plain = refl
+  plain-without seals old (fetches lane which) (refused number) plain = refl
+  plain-without seals old (fetches lane which) done plain = refl
+  plain-without seals old (fetches lane which) device plain = refl
+  plain-without seals old (fetches lane which) broken plain = refl
   plain-without seals old (writes lane bytes) done plain = refl
   plain-without seals old (writes lane bytes) device plain = refl
   plain-without seals old (writes lane bytes) (held grant) plain = refl
@@ -241,12 +275,12 @@ module _ {K : Type 0} where
   plain-without seals old (settles lane) outcome plain = refl
   plain-without seals old (finishes lane) outcome plain = refl
 
-  answered-by-without : (old : State K) (event : Event) (outcome : Outcome) (plain : ℕ → List ℕ)
+  answered-by-without : (old : State K) (event : Event) (outcome : Outcome) (plain : ℕ → InPlain)
       → answered_by (without_work old) event outcome plain ≡ answered_by old event outcome plain
   unfolding answered_by
   answered-by-without old event outcome plain = refl
 
-  pub answered-without : (seals : Seals) (old : State K) (plain : ℕ → List ℕ)
+  pub answered-without : (seals : Seals) (old : State K) (plain : ℕ → InPlain)
       (run : List (Happening K))
       → answered_in seals (without_work old) plain (map happening_without_work run)
       ≡ answered_in seals old plain run

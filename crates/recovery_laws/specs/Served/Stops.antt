@@ -12,6 +12,7 @@ use Rattle.reenc_recovery.specs.Images.{StandsUnder}
 use Rattle.sector_disk.specs.Cells.{Cell, IsImage}
 use Rattle.sector_disk.specs.Steps.{Told}
 use Rattle.volume_laws.specs.Contents.{IsAllowedAt, StopsAllowed}
+use Rattle.volume_machine.specs.Edges.{InPlain}
 use Rattle.volume_machine.specs.Runs.{Happening, last_of}
 use Rattle.volume_machine.specs.Seals.{Seals}
 use Rattle.volume_machine.specs.States.{State}
@@ -25,7 +26,7 @@ pub record HasStill (sizes : Sizes) (header : Stored) (image : List ℕ) : Type 
 -- Each image of a table stands under the keys of the sides, by the header that it has itself, for a
 -- content in which each block has a value that is allowed; and that header's metadata are still these.
 abbrev pub StandsAllowed : {K : Type 0} → Sizes → Stored → List ℕ → List ℕ → State K
-    → (ℕ → List ℕ) → List Block → List Cell → Type 0
+    → (ℕ → InPlain) → List Block → List Cell → Type 0
 StandsAllowed sizes header old_key new_key state plain blocks cells =
     (image : List (List ℕ)) → IsImage cells image →
     (content : List (List ℕ)) × StandsUnder sizes old_key new_key (joined image) content
@@ -38,6 +39,6 @@ abbrev pub StandsAlong : {K : Type 0} → Sizes → Stored → List ℕ → List
     → List (Happening K) → Type 0
 StandsAlong {K} sizes header old_key new_key start seals run = (earlier later : List (Happening K)) →
     run ≡ earlier ++ later → (told : Told) → (last_of start earlier).disk.told ≡ Some told →
-    (plain : ℕ → List ℕ) (blocks : List Block) →
+    (plain : ℕ → InPlain) (blocks : List Block) →
     StopsAllowed (last_of start earlier) seals plain blocks told.now →
     StandsAllowed sizes header old_key new_key (last_of start earlier) plain blocks told.now

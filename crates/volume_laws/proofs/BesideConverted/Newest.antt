@@ -21,6 +21,7 @@ use Rattle.volume_laws.specs.Standing.{AtomStands, BlockStands, Content, StandsB
 use Rattle.volume_machine.specs.Answers.{AreExchanges}
 use Rattle.volume_machine.specs.Deeds.{Act, AreDeeds, Deed, Does, answered_over, client, plain_by}
 use Rattle.volume_machine.specs.Deeds.{plain_over, state_after, worker}
+use Rattle.volume_machine.specs.Edges.{InPlain, nothing}
 use Rattle.volume_machine.specs.Events.{lane_of}
 use Rattle.volume_machine.specs.Pieces.{place_in, side_in}
 use Rattle.volume_machine.specs.Readings.{Reading}
@@ -33,14 +34,14 @@ use Rattle.volume_machine.specs.declared.keys.Keys.{Keys}
 
 -- ---- the conversion's lane has nothing in plain
 module _ {K : Type 0} (reading : Reading) (seals : Seals) (lane : ℕ) where
-  plain-stays : (old new : State K) (act : Act) (plain : ℕ → List ℕ) → (IsClient old lane → ⊥)
+  plain-stays : (old new : State K) (act : Act) (plain : ℕ → InPlain) → (IsClient old lane → ⊥)
       → Does reading seals old act new → plain_by seals old act plain lane ≡ plain lane
   plain-stays old new (client event outcome) plain other (meets, step) =
       other_plain seals old plain event outcome lane
       (λ same. other (subst (λ k. IsClient old k) (sym same) meets.client))
   plain-stays old new (worker worked) plain other step = refl
 
-  pub plain-rests : (old : State K) (deeds : List (Deed K)) (plain : ℕ → List ℕ)
+  pub plain-rests : (old : State K) (deeds : List (Deed K)) (plain : ℕ → InPlain)
       → (IsClient old lane → ⊥) → IsKept reading old → AreDeeds reading seals old deeds
       → plain_over seals old plain deeds lane ≡ plain lane
   unfolding AreDeeds plain_over
@@ -62,10 +63,10 @@ is-below (suc n) (suc m) =
     ]
 
 -- nothing is tried by a lane that has nothing in plain
-tried-none : {K : Type 0} (state : State K) (plain : ℕ → List ℕ) (lane b : ℕ) (value : List ℕ)
-    → plain lane ≡ [] → IsTriedBy state plain lane b value → ⊥
+tried-none : {K : Type 0} (state : State K) (plain : ℕ → InPlain) (lane b : ℕ) (value : List ℕ)
+    → plain lane ≡ nothing → IsTriedBy state plain lane b value → ⊥
 tried-none state plain lane b value none is =
-    let long : length (plain lane) ≡ 0 = ap length none in
+    let long : length (plain lane).bytes ≡ 0 = ap (λ p. length p.bytes) none in
     let some = state.map.some_atom in
     let tried = is.tried in
     let more : 1 ≤ suc (b - is.o.range.start) = omega arith in
@@ -101,7 +102,7 @@ module _ {C : Type 0}
   abbrev here : State (Keys C)
   here = state_after start deeds
 
-  abbrev plain : ℕ → List ℕ
+  abbrev plain : ℕ → InPlain
   plain = plain_over seals start no_plain deeds
 
   kept : IsKept reading start

@@ -6,6 +6,7 @@ use Rattle.std.proofs.lemmas.Bool.{cases_lt, cases_eq as same_or_not}
 use Rattle.std.proofs.lemmas.List.{append-nil}
 use Rattle.volume_machine.specs.Alone.{Alone, Call, alone_after, answered_alone, idle_lane, AreMet}
 use Rattle.volume_machine.specs.Alone.{MeetsAlone, alone_of, answers_of}
+use Rattle.volume_machine.specs.Edges.{InPlain}
 use Rattle.volume_machine.specs.Events.{Event, Outcome, lane_of}
 use Rattle.volume_machine.specs.Runs.{no_plain, answered_by, plain_after}
 use Rattle.volume_machine.specs.Seals.{Seals}
@@ -49,7 +50,7 @@ module _ (atom : ℕ) (seals : Seals) where
   answers-joined alone [] ys = refl
   answers-joined alone (x ∷ xs) ys =
       let next = alone_after atom seals alone x.event x.outcome in
-      rw (answers-joined next xs ys) (sym (append_assoc (answered_alone alone x.event x.outcome)
+      rw (answers-joined next xs ys) (sym (append_assoc (answered_alone atom alone x.event x.outcome)
       (answers_of atom seals next xs) (answers_of atom seals (alone_of atom seals next xs) ys)))
 
   met-parts : (alone : Alone) (xs ys : List Call) → AreMet atom seals alone (xs ++ ys) →
@@ -122,7 +123,7 @@ same_on first later = record {
 
 -- ---- one deed
 record Next {K : Type 0} (reading : Reading) (count : ℕ) (seals : Seals) (old : State K)
-    (plain : ℕ → List ℕ) (alone : ℕ → Alone) (act : Act) (new : State K) : Type 0 where
+    (plain : ℕ → InPlain) (alone : ℕ → Alone) (act : Act) (new : State K) : Type 0 where
   does : Does reading seals old act new
   kept : IsKept reading new
   same : StaysSame old new
@@ -132,7 +133,7 @@ record Next {K : Type 0} (reading : Reading) (count : ℕ) (seals : Seals) (old 
       ≡ answers_of old.map.atom seals (alone k) (call_in k act)
 
 module _ {K : Type 0} (reading : Reading) (seals : Seals) (old new : State K)
-    (plain : ℕ → List ℕ) (alone : ℕ → Alone) (kept : IsKept reading old)
+    (plain : ℕ → InPlain) (alone : ℕ → Alone) (kept : IsKept reading old)
     (are : (k : ℕ) → IsClient old k → IsLane old plain k (alone k)) where
   other_step : (event : Event) (outcome : Outcome) (k : ℕ) → k ≢ lane_of event
       → IsLane old plain k (alone k) → Step old event outcome new
@@ -148,14 +149,14 @@ module _ {K : Type 0} (reading : Reading) (seals : Seals) (old new : State K)
 
   -- an event of a client
   client_next : (event : Event) (outcome : Outcome) → IsClient old (lane_of event)
-      → MeetsAlone (alone (lane_of event)) event → Step old event outcome new
+      → MeetsAlone seals (alone (lane_of event)) event → Step old event outcome new
       → Next reading (length old.lanes) seals old plain alone (client event outcome) new
   unfolding alone_of answers_of answered_by
   client_next event outcome is_client meets step =
       let own = lane_of event in
       let goes = event_effects old new event outcome step in
       let met : Meets old event =
-      meets_by old plain event (alone own) kept.sound (are own is_client) is_client meets in record {
+      meets_by seals old plain event (alone own) kept.sound (are own is_client) is_client meets in record {
         does = (met, step);
         kept = record {
           sound = sound_kept old new event outcome kept.sound met step;
@@ -177,7 +178,7 @@ module _ {K : Type 0} (reading : Reading) (seals : Seals) (old new : State K)
         answers = λ k below. elim (same_or_not own k) [
           | inl same ↦ (let is = are own is_client in
               rw (← same, own-true own, is.operation, is.plain_is)
-              (sym (append-nil (answered_alone (alone own) event outcome))))
+              (sym (append-nil (answered_alone old.map.atom (alone own) event outcome))))
           | inr differ ↦ rw (not-own own k differ) refl
         ];
       }
@@ -218,7 +219,7 @@ module _ {K : Type 0} (reading : Reading) (seals : Seals) (old new : State K)
 
 -- ---- many deeds, from any moment at which each lane is what its calls so far tell
 record Follows {K : Type 0} (reading : Reading) (atom count : ℕ) (seals : Seals) (old : State K)
-    (plain : ℕ → List ℕ) (alone : ℕ → Alone) (deeds : List (Deed K)) : Type 0 where
+    (plain : ℕ → InPlain) (alone : ℕ → Alone) (deeds : List (Deed K)) : Type 0 where
   are : AreDeeds reading seals old deeds
   kept : IsKept reading (state_after old deeds)
   same : StaysSame old (state_after old deeds)
@@ -228,7 +229,7 @@ record Follows {K : Type 0} (reading : Reading) (atom count : ℕ) (seals : Seal
       ≡ answers_of atom seals (alone k) (calls_over k deeds)
 
 follows : {K : Type 0} (reading : Reading) (atom count : ℕ) (seals : Seals) (old : State K)
-    (plain : ℕ → List ℕ) (alone : ℕ → Alone) (deeds : List (Deed K)) → old.map.atom ≡ atom
+    (plain : ℕ → InPlain) (alone : ℕ → Alone) (deeds : List (Deed K)) → old.map.atom ≡ atom
     → length old.lanes ≡ count → IsKept reading old
     → ((k : ℕ) → suc k < count → IsLane old plain k (alone k)) → AreMade reading seals old deeds
     → AreOfClients count deeds → ((k : ℕ) → AreMet atom seals (alone k) (calls_over k deeds))
@@ -279,7 +280,7 @@ module _ (count lane : ℕ) (past : count ≤ suc lane) where
       call-other lane event outcome (λ same. omega (arith, same, past, is_client))
   no_call (worker worked) tells = refl
 
-  no_answer : {K : Type 0} (old : State K) (plain : ℕ → List ℕ) (act : Act) → IsOfClient count act
+  no_answer : {K : Type 0} (old : State K) (plain : ℕ → InPlain) (act : Act) → IsOfClient count act
       → answered_at lane old act plain ≡ []
   no_answer old plain (client event outcome) is_client =
       rw (not-own (lane_of event) lane (λ same. omega (arith, same, past, is_client))) refl
@@ -291,7 +292,7 @@ module _ (count lane : ℕ) (past : count ≤ suc lane) where
   no_calls (one ∷ rest) (is_client, clients) =
       rw (no_call one.act is_client) (no_calls rest clients)
 
-  no_answers : {K : Type 0} (seals : Seals) (old : State K) (plain : ℕ → List ℕ) (deeds : List (Deed K))
+  no_answers : {K : Type 0} (seals : Seals) (old : State K) (plain : ℕ → InPlain) (deeds : List (Deed K))
       → AreOfClients count deeds → answered_on lane seals old plain deeds ≡ []
   unfolding AreOfClients answered_on
   no_answers seals old plain [] clients = refl
@@ -333,11 +334,11 @@ are_alone_beside reading start seals deeds ready made by =
 pub next_meets_beside : {K : Type 0} (reading : Reading) (start : State K) (seals : Seals)
     (deeds : List (Deed K)) (event : Event) → BeginsBeside reading start
     → AreMade reading seals start deeds → AreMetBeside start seals deeds
-    → IsClient start (lane_of event) → MeetsAlone (alone_over start seals (lane_of event) deeds) event
+    → IsClient start (lane_of event) → MeetsAlone seals (alone_over start seals (lane_of event) deeds) event
     → Meets (state_after start deeds) event
 next_meets_beside reading start seals deeds event ready made by is_client meets =
     let alone = are_alone_beside reading start seals deeds ready made by in
-    meets_by (state_after start deeds) (plain_over seals start no_plain deeds) event
+    meets_by seals (state_after start deeds) (plain_over seals start no_plain deeds) event
     (alone_over start seals (lane_of event) deeds) alone.kept.sound
     (alone.lanes (lane_of event) is_client) (rw alone.same.lanes is_client) meets
 
@@ -368,7 +369,7 @@ deed_more start seals deeds one by is_client meets = record {
 pub event_more : {K : Type 0} (start : State K) (seals : Seals) (deeds : List (Deed K))
     (event : Event) (outcome : Outcome) (after : State K) → AreMetBeside start seals deeds
     → IsClient start (lane_of event)
-    → MeetsAlone (alone_over start seals (lane_of event) deeds) event
+    → MeetsAlone seals (alone_over start seals (lane_of event) deeds) event
     → AreMetBeside start seals (deeds ++ record { act = client event outcome; after = after } ∷ [])
 unfolding AreMet
 event_more start seals deeds event outcome after by is_client meets =

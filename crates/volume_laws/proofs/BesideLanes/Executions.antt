@@ -1,6 +1,7 @@
 -- Executions beside a conversion, one after the other.
 use Rattle.std.proofs.Common.{List, [], ap, append_assoc, sym, ℕ, ◌++◌, ◌∙◌, ◌∷◌, ◌≡◌, refl}
 use Rattle.volume_machine.specs.Answers.{Answered, Tagged, AreExchanges, AreTagged, untagged}
+use Rattle.volume_machine.specs.Edges.{InPlain}
 use Rattle.volume_machine.specs.Runs.{no_plain}
 use Rattle.volume_machine.specs.Seals.{Seals}
 use Rattle.volume_machine.specs.States.{State}
@@ -24,7 +25,7 @@ unfolding state_after
 after-joined old [] ys = refl
 after-joined old (x ∷ xs) ys = after-joined x.after xs ys
 
-over-joined : {K : Type 0} (seals : Seals) (old : State K) (plain : ℕ → List ℕ)
+over-joined : {K : Type 0} (seals : Seals) (old : State K) (plain : ℕ → InPlain)
     (xs ys : List (Deed K)) → answered_over seals old plain (xs ++ ys)
     ≡ answered_over seals old plain xs
     ++ answered_over seals (state_after old xs) (plain_over seals old plain xs) ys

@@ -1,6 +1,7 @@
 -- Deeds that begin without a conversion's work, or among which is no step of the worker, are a run of
 -- events.
 use Rattle.std.proofs.Common.{List, None, [], ap, refl, subst, sym, ℕ, ◌++◌, ◌∙◌, ◌∷◌, ◌≡◌}
+use Rattle.volume_machine.specs.Edges.{InPlain}
 use Rattle.volume_machine.specs.Events.{Event, Outcome}
 use Rattle.volume_machine.specs.Runs.{Happening, IsRun, last_of}
 use Rattle.volume_machine.specs.Seals.{Seals}
@@ -35,7 +36,7 @@ module _ {K : Type 0} where
   run-calls lane [] = refl
   run-calls lane (one ∷ run) = ap (λ calls. call_of lane one ++ calls) (run-calls lane run)
 
-  run-answers : (lane : ℕ) (seals : Seals) (start : State K) (plain : ℕ → List ℕ)
+  run-answers : (lane : ℕ) (seals : Seals) (start : State K) (plain : ℕ → InPlain)
       (run : List (Happening K))
       → answered_under lane seals start plain run ≡ answered_on lane seals start plain (deeds_of run)
   unfolding answered_under answered_on deeds_of

@@ -1,11 +1,12 @@
 -- Which operations are answered 5 in a history of deeds.
 use Rattle.std.proofs.Common.{Bool, List, None, Option, Some, [], ap, append_assoc, false}
 use Rattle.std.proofs.Common.{if◌then◌else◌, inl, inr, refl, subst, sym, length, true, ℕ, ◌++◌, ◌+◌}
-use Rattle.std.proofs.Common.{◌↔◌, ◌∷◌, ◌≡◌, ◌<◌, suc}
+use Rattle.std.proofs.Common.{max, ◌*◌, ◌/◌, ◌↔◌, ◌∷◌, ◌≡◌, ◌<◌, suc}
 use Rattle.std.proofs.lemmas.Bool.{cases_Bool as either}
 use Rattle.plain_disk.specs.declared.operation.Reply.TheVariants.{Done}
 use Rattle.volume_machine.specs.Answers.{Answered, by_admit, by_finish, flush_reply, full_reply}
 use Rattle.volume_machine.specs.Asks.{wrong_ask}
+use Rattle.volume_machine.specs.Edges.{InPlain}
 use Rattle.volume_machine.specs.Events.{Event, Outcome, admits, broken, device, done, finishes}
 use Rattle.volume_machine.specs.Events.{lane_of, refused, settles}
 use Rattle.volume_machine.specs.Runs.{no_plain, answered_by}
@@ -45,7 +46,7 @@ module _ {K : Type 0} (reading : Reading) (seals : Seals) where
       deed-amid first.after earlier later one are
 
 -- ---- what deeds answer, one after the other
-pub answered-deeds : {K : Type 0} (seals : Seals) (old : State K) (plain : ℕ → List ℕ)
+pub answered-deeds : {K : Type 0} (seals : Seals) (old : State K) (plain : ℕ → InPlain)
     (xs ys : List (Deed K)) → answered_over seals old plain (xs ++ ys)
     ≡ answered_over seals old plain xs
     ++ answered_over seals (state_after old xs) (plain_over seals old plain xs) ys
@@ -56,19 +57,20 @@ answered-deeds seals old plain (x ∷ xs) ys =
     (sym (append_assoc (answered_of old x.act plain) _ _))
 
 -- ---- an operation that is answered by an admit was refused
-refused_by : (session : ℕ) (ask : Ask) (outcome : Outcome) (answered : Answered)
-    → by_admit session ask outcome ≡ answered ∷ [] → answered.ask ≡ ask
-refused_by session ask (refused number) answered is = ap (λ a. a.ask) (one_answered _ answered is)
-refused_by session ask _ answered is = absurd (cc)
+refused_by : (atom session : ℕ) (ask : Ask) (outcome : Outcome) (answered : Answered)
+    → by_admit atom session ask outcome ≡ answered ∷ [] → answered.ask ≡ ask
+refused_by atom session ask (refused number) answered is =
+    ap (λ a. a.ask) (one_answered _ answered is)
+refused_by atom session ask _ answered is = absurd (cc)
 
 admit_exact : {K : Type 0} (old new : State K) (lane session : ℕ) (ask : Ask) (outcome : Outcome)
     (answered : Answered) → AdmitStep old lane session ask outcome new
-    → by_admit session ask outcome ≡ answered ∷ [] →
+    → by_admit old.map.atom session ask outcome ≡ answered ∷ [] →
     wrong_ask old.map.atom (size_of old.map) answered.ask ≡ None
     → IsDeviceError answered.reply ↔ (old.broken ≡ true)
 admit_exact old new lane session ask outcome answered step is proper =
     let right : wrong_ask old.map.atom (size_of old.map) ask ≡ None =
-    rw (← refused_by session ask outcome answered is) proper in let judged = rw right at step in
+    rw (← refused_by old.map.atom session ask outcome answered is) proper in let judged = rw right at step in
     elim (either old.broken) [
       | inl broke ↦ let refusal = rw broke at judged in
           let one = one_answered _ answered (rw refusal.0 at is) in
@@ -90,31 +92,33 @@ settle_exact old new lane o broken step = (λ five. refl, λ failed. inl refl)
 settle_exact old new lane o _ step = absurd step
 
 -- an operation that is answered by its finish
-not_five : (ask : Ask) (plain : List ℕ) → IsDeviceError (full_reply ask plain) → ⊥
-not_five (Read offset len) plain (inl is) = cc
-not_five (Read offset len) plain (inr (place, is)) = cc
-not_five _ plain is = done_is_none is
+not_five : (atom : ℕ) (ask : Ask) (bytes : List ℕ) → IsDeviceError (full_reply atom ask bytes) → ⊥
+not_five atom (Read offset len) bytes (inl is) = cc
+not_five atom (Read offset len) bytes (inr (place, is)) = cc
+not_five atom _ bytes is = done_is_none is
 
-is_five : (ask : Ask) (plain : List ℕ) → IsDeviceError (failed_reply ask plain)
-is_five (Read offset len) plain = inr (offset + length plain, refl)
-is_five _ plain = inl refl
+is_five : (atom : ℕ) (ask : Ask) (bytes : List ℕ) → IsDeviceError (failed_reply atom ask bytes)
+is_five atom (Read offset len) bytes =
+    inr (max offset (offset / atom * atom + length bytes), refl)
+is_five atom _ bytes = inl refl
 
-finish_exact : (failed : Bool) (ask : Ask) (plain : List ℕ)
-    → IsDeviceError (if failed then failed_reply ask plain else full_reply ask plain)
+finish_exact : (failed : Bool) (atom : ℕ) (ask : Ask) (bytes : List ℕ)
+    → IsDeviceError (if failed then failed_reply atom ask bytes else full_reply atom ask bytes)
     ↔ (failed ≡ true)
-finish_exact true ask plain = (λ five. refl, λ failed. is_five ask plain)
-finish_exact false ask plain = (λ five. absurd (not_five ask plain five), λ failed. absurd (cc))
+finish_exact true atom ask bytes = (λ five. refl, λ failed. is_five atom ask bytes)
+finish_exact false atom ask bytes =
+    (λ five. absurd (not_five atom ask bytes five), λ failed. absurd (cc))
 
-finish_answers : {K : Type 0} (old : State K) (lane : ℕ) (plain : List ℕ) (before : Bool)
+finish_answers : {K : Type 0} (old : State K) (lane : ℕ) (plain : InPlain) (before : Bool)
     (now : Option Open) (answered : Answered) → open_at old.lanes lane ≡ now →
     ((o : Open) → open_at old.lanes lane ≡ Some o → o.failed ≡ before)
-    → by_finish now plain ≡ answered ∷ [] → IsDeviceError answered.reply ↔ (before ≡ true)
+    → by_finish old.map.atom now plain ≡ answered ∷ [] → IsDeviceError answered.reply ↔ (before ≡ true)
 finish_answers old lane plain before None answered at fails is = absurd (cc)
 finish_answers old lane plain before (Some o) answered at fails is =
-    rw (one_answered _ answered is, ← fails o at) (finish_exact o.failed o.ask plain)
+    rw (one_answered _ answered is, ← fails o at) (finish_exact o.failed old.map.atom o.ask plain.bytes)
 
 -- ---- each deed
-event_exact : {K : Type 0} (start : State K) (earlier : List (Deed K)) (plain : ℕ → List ℕ)
+event_exact : {K : Type 0} (start : State K) (earlier : List (Deed K)) (plain : ℕ → InPlain)
     (new : State K) (event : Event) (outcome : Outcome) (answered : Answered)
     → GoesByDeeds start earlier → IsClient start (lane_of event)
     → Step (state_after start earlier) event outcome new
@@ -126,7 +130,7 @@ unfolding Step answered_by
 event_exact start earlier plain new (admits lane session ask) outcome answered goes own step is proper =
     admit_exact (state_after start earlier) new lane session ask outcome answered step is proper
 event_exact start earlier plain new (settles lane) outcome answered goes own (o, at, step) is proper =
-    rw (by_settle_is o outcome answered (rw at at is))
+    rw (by_settle_is (state_after start earlier).map.atom o outcome answered (rw at at is))
     (settle_exact (state_after start earlier) new lane o outcome step)
 event_exact start earlier plain new (finishes lane) outcome answered goes own step is proper =
     finish_answers (state_after start earlier) lane (plain lane) (fails_over lane false earlier) _

@@ -1,11 +1,11 @@
 -- Histories of deeds in which no count of faults moves.
-use Rattle.std.proofs.Common.{Bool, List, MatchBool, MatchOption, None, Option, Some, [], arith}
+use Rattle.std.proofs.Common.{Bool, List, MatchBool, MatchOption, None, Option, Some, [], ap, arith}
 use Rattle.std.proofs.Common.{false, inl, inr, length, length-append, refl, subst, sym, true, ℕ}
 use Rattle.std.proofs.Common.{◌*◌, ◌++◌, ◌+◌, ◌-◌, ◌/◌, ◌<◌, ◌^◌, ◌∙◌, ◌∷◌, ◌≡◌, ◌≢◌, ◌⊎◌, suc}
 use Rattle.std.proofs.lemmas.Bool.{MatchBool-at_false, cases_eq as same_or_not}
 use Rattle.std.proofs.lemmas.Bool.{cases_Bool as either}
 use Rattle.base_terms.specs.Causes.{Rose}
-use Rattle.plain_disk.specs.Operations.{wrong_of}
+use Rattle.plain_disk.specs.Operations.{touched, touched_end, wrong_of}
 use Rattle.plain_disk.specs.Plain.{Exchange}
 use Rattle.plain_disk.specs.declared.operation.Reply.TheVariants.{Content, Done, Errno}
 use Rattle.range_lock.specs.declared.Entry.{Entry}
@@ -13,17 +13,19 @@ use Rattle.segment_map.specs.declared.map.Piece.{Piece}
 use Rattle.volume_machine.specs.Answers.{Answered, Asked, IsExchange, by_admit, by_finish}
 use Rattle.volume_machine.specs.Answers.{by_settle, full_reply, refusal, AreExchanges}
 use Rattle.volume_machine.specs.Asks.{has_lock, range_of, wrong_ask}
+use Rattle.volume_machine.specs.Edges.{InPlain, in_range, nothing, with_bytes, with_edge}
 use Rattle.volume_machine.specs.Events.{Event, Outcome, admits, asks, broken, device, done}
-use Rattle.volume_machine.specs.Events.{finishes, got, reads, refused, settles, writes}
-use Rattle.volume_machine.specs.Pieces.{ArePieceBytes, IsComplete, IsPieceOf, moved, settling}
-use Rattle.volume_machine.specs.Pieces.{side_in}
-use Rattle.volume_machine.specs.Runs.{after_read, after_write, no_plain, plain_piece, with_plain}
+use Rattle.volume_machine.specs.Events.{fetches, finishes, got, reads, refused, settles, writes}
+use Rattle.volume_machine.specs.Pieces.{ArePieceBytes, IsComplete, IsPieceOf, fetching, moved}
+use Rattle.volume_machine.specs.Pieces.{settling, side_in}
+use Rattle.volume_machine.specs.Runs.{after_fetch, after_read, after_write, no_plain, plain_edge}
+use Rattle.volume_machine.specs.Runs.{plain_piece, with_plain}
 use Rattle.volume_machine.specs.Runs.{answered_by, plain_after}
 use Rattle.volume_machine.specs.Seals.{AreLawful, Seals}
 use Rattle.volume_machine.specs.Sound.{IsSound}
 use Rattle.volume_machine.specs.States.{State, begun, open_at, size_of, IsClient}
-use Rattle.volume_machine.specs.Steps.{CanSettle, FinishStep, Goes, IsAdmitted, Meets, ReadStep}
-use Rattle.volume_machine.specs.Steps.{SettleStep, WriteStep, Can, Step}
+use Rattle.volume_machine.specs.Steps.{CanSettle, EdgeStep, FinishStep, Goes, IsAdmitted, Meets}
+use Rattle.volume_machine.specs.Steps.{ReadStep, SettleStep, WriteStep, Can, Step}
 use Rattle.plain_disk.specs.Outcomes.{AreServed, IsServed}
 use Rattle.plain_disk.proofs.MeaningLemmas.{meaning_served}
 use Rattle.volume_laws.proofs.BesideLanes.ClientsLeft.{clients_left}
@@ -35,7 +37,7 @@ use Rattle.volume_machine.specs.declared.ask.Ask.TheVariants.{Flush, Read, Write
 use Rattle.volume_machine.specs.declared.{ask.Ask.Ask, open.Open.Open}
 use Rattle.volume_machine.proofs.{Soundness.sound_kept}
 use Rattle.volume_laws.proofs.{Admits.plain-other, Admits.plain-own, Admits.unanswered}
-use Rattle.volume_laws.proofs.{Answering.read_whole, Answering.wrong_asked}
+use Rattle.volume_laws.proofs.{Answering.wrong_asked, EdgedText.length-in_range, Here.some_atom}
 use Rattle.volume_laws.proofs.{EventsServed.forced_locks, Reading.piece_blocks}
 use Rattle.volume_laws.proofs.BesideServing.{Failures.broken_by, Failures.deeds_later, Failures.faults_on}
 use Rattle.volume_laws.proofs.BesideServing.{Failures.in_order, Failures.kept_on, Failures.rose_by, Failures.same_on}
@@ -51,7 +53,7 @@ rose_not before now (inr last) same below = omega arith
 -- number
 abbrev IsFull : Answered → Ask → Type 0
 IsFull answered (Read offset len) =
-    (answered.reply ≡ Content answered.plain) × (length answered.plain ≡ len)
+    (bytes : List ℕ) × (answered.reply ≡ Content bytes) × (length bytes ≡ len)
 IsFull answered (Write offset len fua) = answered.reply ≡ Done
 IsFull answered Flush = answered.reply ≡ Done
 
@@ -61,19 +63,19 @@ AreFull atom size (answered ∷ rest) = MatchOption (wrong_ask atom size answere
     answered answered.ask) (λ number. answered.reply ≡ Errno number) × AreFull atom size rest
 
 -- a lane whose operation hasn't failed has had so much of it in plain
-abbrev HasHad : ℕ → List ℕ → Open → Type 0
+abbrev HasHad : ℕ → InPlain → Open → Type 0
 HasHad atom plain o = (o.failed ≡ false)
-    × (has_lock o.ask ≡ true → length plain ≡ (o.next - o.range.start) * atom)
+    × (has_lock o.ask ≡ true → length plain.bytes ≡ (o.next - o.range.start) * atom)
 
 -- nothing of clients has failed, and each operation of theirs knows what its pieces hold
-record IsFine {K : Type 0} (state : State K) (seals : Seals) (plain : ℕ → List ℕ) : Type 0 where
+record IsFine {K : Type 0} (state : State K) (seals : Seals) (plain : ℕ → InPlain) : Type 0 where
   sound : IsSound state
   lawful : AreLawful state.map.atom seals
   unbroken : state.broken ≡ false
   lanes : (lane : ℕ) → IsClient state lane → (o : Open) → open_at state.lanes lane ≡ Some o →
       HasHad state.map.atom (plain lane) o
 
-fine_after : {K : Type 0} {old new : State K} {seals : Seals} {plain now : ℕ → List ℕ} {lane : ℕ}
+fine_after : {K : Type 0} {old new : State K} {seals : Seals} {plain now : ℕ → InPlain} {lane : ℕ}
     {entries : List Entry} {next : Option Open} {is_broken : Bool}
     → IsFine old seals plain → IsSound new → Goes old new lane entries next is_broken
     → is_broken ≡ false → ((k : ℕ) → k ≢ lane → now k ≡ plain k)
@@ -92,7 +94,7 @@ fine_after {old} {now = now} fine sound goes whole known own = record {
 }
 
 -- the moment after an event, and that what was answered is full
-record FineAfter {K : Type 0} (old new : State K) (seals : Seals) (now : ℕ → List ℕ)
+record FineAfter {K : Type 0} (old new : State K) (seals : Seals) (now : ℕ → InPlain)
     (answered : List Answered) : Type 0 where
   fine : IsFine new seals now
   full : AreFull old.map.atom (size_of old.map) answered
@@ -107,29 +109,36 @@ unfolding AreFull
 one_full atom size answered proper full = (rw proper full, tt)
 
 wrong_full : (atom size session number : ℕ) (ask : Ask) → wrong_ask atom size ask ≡ Some number
-    → AreFull atom size (refusal session ask number ∷ [])
+    → AreFull atom size (refusal atom session ask number ∷ [])
 unfolding AreFull
 wrong_full atom size session number ask wrong = (rw wrong refl, tt)
 
 -- a settle
 settle_full : {K : Type 0} (old : State K) (o : Open)
     → wrong_ask old.map.atom (size_of old.map) o.ask ≡ None → CanSettle o
-    → AreFull old.map.atom (size_of old.map) (by_settle (Some o) done)
+    → AreFull old.map.atom (size_of old.map) (by_settle old.map.atom (Some o) done)
 settle_full old o proper (inl is) = rw is (one_full old.map.atom (size_of old.map)
-    (record { session = o.session; ask = Flush; plain = []; reply = Done }) refl refl)
+    (record {
+      session = o.session;
+      atom = old.map.atom;
+      ask = Flush;
+      plain = nothing;
+      reply = Done;
+    }) refl refl)
 settle_full old o proper (inr (forced, ended, unfailed, unsettled)) =
     rw (forced_locks o.ask forced) (none_full old.map.atom (size_of old.map))
 
-module _ {K : Type 0} {old new : State K} {seals : Seals} {plain : ℕ → List ℕ} (lane : ℕ)
+module _ {K : Type 0} {old new : State K} {seals : Seals} {plain : ℕ → InPlain} (lane : ℕ)
     (own_lane : IsClient old lane) (fine : IsFine old seals plain) (sound : IsSound new) where
   -- a piece was made
   fine_moved : (o : Open) (piece : Piece) (bytes : List ℕ) → open_at old.lanes lane ≡ Some o →
       IsPieceOf old.map o piece → ArePieceBytes old.map piece bytes →
       Goes old new lane old.entries (Some (moved o piece)) false →
-      IsFine new seals (with_plain plain lane (plain lane ++ plain_piece seals old lane bytes))
+      IsFine new seals
+      (with_plain plain lane (with_bytes (plain lane) (plain_piece seals old lane bytes)))
   fine_moved o piece bytes at next are goes =
       let had = fine.lanes lane own_lane o at in
-      let now = plain lane ++ plain_piece seals old lane bytes in
+      let now = with_bytes (plain lane) (plain_piece seals old lane bytes) in
       let opened : plain_piece seals old lane bytes
       ≡ seals.opened (side_in old.map o.next) o.next bytes = rw at refl in
       let count : (moved o piece).next - o.range.start ≡ (o.next - o.range.start) + piece.count =
@@ -137,7 +146,7 @@ module _ {K : Type 0} {old new : State K} {seals : Seals} {plain : ℕ → List 
       fine_after fine sound goes refl (plain-other plain lane now) (λ p is.
       let e : p ≡ moved o piece = cc in rw (e, plain-own plain lane now) (
         had.0,
-        λ has. length-append (plain lane) (plain_piece seals old lane bytes)
+        λ has. length-append (plain lane).bytes (plain_piece seals old lane bytes)
             ∙ rw (count, opened, had.1 has, (piece_blocks o next fine.lawful are).size)
             (grind arith),
       ))
@@ -151,6 +160,19 @@ module _ {K : Type 0} {old new : State K} {seals : Seals} {plain : ℕ → List 
   fine_read o broken calm at step = absurd (cc)
   fine_read o _ calm at step = absurd step
 
+  fine_fetch : (which : ℕ) (o : Open) (outcome : Outcome) →
+      (Rose old.disk.faults new.disk.faults → ⊥) → open_at old.lanes lane ≡ Some o →
+      EdgeStep old lane o which outcome new →
+      IsFine new seals (after_fetch seals old lane which outcome plain)
+  fine_fetch which o (got bytes) calm at step =
+      let had = fine.lanes lane own_lane o at in
+      let now = with_edge (plain lane) (plain_edge seals old lane which bytes) in
+      fine_after fine sound step.goes refl (plain-other plain lane now)
+      (λ p is. let e : p ≡ fetching o = cc in rw (e, plain-own plain lane now) (had.0, had.1))
+  fine_fetch which o device calm at step = absurd (calm (step.call.cause.failed refl))
+  fine_fetch which o broken calm at step = absurd (cc)
+  fine_fetch which o _ calm at step = absurd step
+
   fine_write : (o : Open) (bytes : List ℕ) (outcome : Outcome) →
       (Rose old.disk.faults new.disk.faults → ⊥) →
       open_at old.lanes lane ≡ Some o → WriteStep old lane o bytes outcome new →
@@ -163,7 +185,7 @@ module _ {K : Type 0} {old new : State K} {seals : Seals} {plain : ℕ → List 
 
   fine_settle : (o : Open) (outcome : Outcome) → (Rose old.disk.faults new.disk.faults → ⊥) →
       open_at old.lanes lane ≡ Some o → CanSettle o → SettleStep old lane o outcome new →
-      FineAfter old new seals plain (by_settle (Some o) outcome)
+      FineAfter old new seals plain (by_settle old.map.atom (Some o) outcome)
   fine_settle o done calm at can step = record {
     fine = fine_after fine sound step.goes refl (λ k other. refl)
         (λ p is. rw (settled_is o (settling o) p is) (fine.lanes lane own_lane o at));
@@ -177,9 +199,10 @@ module _ {K : Type 0} {old new : State K} {seals : Seals} {plain : ℕ → List 
   finish_full : (o : Open) (ask : Ask) → open_at old.lanes lane ≡ Some o → o.ask ≡ ask →
       has_lock o.ask ≡ true → (o.failed ≡ true) ⊎ IsComplete o → IsFull (record {
         session = o.session;
+        atom = old.map.atom;
         ask = ask;
         plain = plain lane;
-        reply = full_reply ask (plain lane);
+        reply = full_reply old.map.atom ask (plain lane).bytes;
       }) ask
   finish_full o (Read offset len) at is has (inl failed) =
       absurd (let whole = (fine.lanes lane own_lane o at).0 in cc)
@@ -187,17 +210,21 @@ module _ {K : Type 0} {old new : State K} {seals : Seals} {plain : ℕ → List 
       let under_way = fine.sound.under_way lane o at in
       let proper = rw is at under_way.proper in let range = rw is at under_way.range_is in
       let start : o.range.start ≡ offset / old.map.atom = rw range refl in
-      let end : o.range.end ≡ offset / old.map.atom + len / old.map.atom = rw range refl in
-      let count : o.next - o.range.start ≡ len / old.map.atom = omega arith in
-      let whole =
-      read_whole old.map.atom (size_of old.map) offset len fine.sound.fits.known proper in
-      (refl, (fine.lanes lane own_lane o at).1 has ∙ rw count whole.1)
+      let end : o.range.end ≡ touched_end old.map.atom offset len = rw range refl in
+      let count : o.next - o.range.start ≡ touched old.map.atom offset len =
+      omega (arith, start, end, complete.pieces) in (
+        in_range old.map.atom offset len (plain lane).bytes,
+        refl,
+        length-in_range old.map.atom offset len (plain lane).bytes
+            (some_atom old.map.atom fine.sound.fits.known)
+            ((fine.lanes lane own_lane o at).1 has ∙ ap (λ n. n * old.map.atom) count),
+      )
   finish_full o (Write offset len fua) at is has ended = refl
   finish_full o Flush at is has ended = refl
 
   fine_finish : (o : Open) (outcome : Outcome) → open_at old.lanes lane ≡ Some o →
       has_lock o.ask ≡ true → (o.failed ≡ true) ⊎ IsComplete o → FinishStep old lane outcome new →
-      FineAfter old new seals plain (by_finish (Some o) (plain lane))
+      FineAfter old new seals plain (by_finish old.map.atom (Some o) (plain lane))
   fine_finish o outcome at has ended step = record {
     fine = fine_after fine sound step.goes fine.unbroken (λ k other. refl) (λ p is. absurd (cc));
     full = rw (fine.lanes lane own_lane o at).0 (one_full old.map.atom (size_of old.map) _
@@ -205,14 +232,14 @@ module _ {K : Type 0} {old new : State K} {seals : Seals} {plain : ℕ → List 
   }
 
   -- an operation that begins
-  fine_forgets : open_at old.lanes lane ≡ None → IsFine old seals (with_plain plain lane [])
+  fine_forgets : open_at old.lanes lane ≡ None → IsFine old seals (with_plain plain lane nothing)
   fine_forgets free = record {
     sound = fine.sound;
     lawful = fine.lawful;
     unbroken = fine.unbroken;
     lanes = λ k client_lane o is. elim (same_or_not k lane) [
       | inl same ↦ absurd (let at = rw same at is in cc)
-      | inr other ↦ rw (plain-other plain lane [] k other) (fine.lanes k client_lane o is)
+      | inr other ↦ rw (plain-other plain lane nothing k other) (fine.lanes k client_lane o is)
     ];
   }
 
@@ -220,16 +247,17 @@ module _ {K : Type 0} {old new : State K} {seals : Seals} {plain : ℕ → List 
       → wrong_ask old.map.atom (size_of old.map) ask ≡ wrong → open_at old.lanes lane ≡ None
       → MatchOption wrong (MatchBool old.broken ((outcome ≡ refused 5) × (new ≡ old)) (IsAdmitted
       old lane session ask outcome new)) (λ number. (outcome ≡ refused number) × (new ≡ old))
-      → FineAfter old new seals (with_plain plain lane []) (by_admit session ask outcome)
+      → FineAfter old new seals (with_plain plain lane nothing)
+      (by_admit old.map.atom session ask outcome)
   fine_admit session ask outcome (Some number) is free step = record {
     fine = rw step.1 (fine_forgets free);
     full = rw step.0 (wrong_full old.map.atom (size_of old.map) session number ask is);
   }
   fine_admit session ask outcome None is free step =
       let admitted = MatchBool-at_false _ _ fine.unbroken step in record {
-        fine = fine_after fine sound admitted.goes fine.unbroken (plain-other plain lane [])
+        fine = fine_after fine sound admitted.goes fine.unbroken (plain-other plain lane nothing)
             (λ o same. let e : o ≡ begun old.map.atom session ask = cc in
-            rw (e, plain-own plain lane []) (
+            rw (e, plain-own plain lane nothing) (
               refl,
               λ has.
                   let start = (range_of old.map.atom ask).start in
@@ -238,7 +266,7 @@ module _ {K : Type 0} {old new : State K} {seals : Seals} {plain : ℕ → List 
         full = rw (unanswered admitted) (none_full old.map.atom (size_of old.map));
       }
 
-fine_event : {K : Type 0} {old new : State K} {seals : Seals} {plain : ℕ → List ℕ}
+fine_event : {K : Type 0} {old new : State K} {seals : Seals} {plain : ℕ → InPlain}
     (event : Event) (outcome : Outcome) → IsFine old seals plain → Meets old event
     → Step old event outcome new → (Rose old.disk.faults new.disk.faults → ⊥) → FineAfter
     old new seals (plain_after seals old event outcome plain) (answered_by old event outcome plain)
@@ -252,6 +280,12 @@ fine_event {old} {new} (reads lane len) outcome fine meets (o, at, step) calm =
     let sound = sound_kept old new (reads lane len) outcome fine.sound meets (o, at, step) in
     record {
       fine = fine_read lane meets.client fine sound o outcome calm at step;
+      full = none_full old.map.atom (size_of old.map);
+    }
+fine_event {old} {new} (fetches lane which) outcome fine meets (o, at, step) calm =
+    let sound = sound_kept old new (fetches lane which) outcome fine.sound meets (o, at, step) in
+    record {
+      fine = fine_fetch lane meets.client fine sound which o outcome calm at step;
       full = none_full old.map.atom (size_of old.map);
     }
 fine_event {old} {new} (writes lane bytes) outcome fine meets (o, at, step) calm =
@@ -295,7 +329,7 @@ module _ {K : Type 0} (reading : Reading) (seals : Seals) (old new : State K) wh
     | inr still ↦ still
   ]
 
-  fine_on : (plain : ℕ → List ℕ) (act : Act) → IsKept reading old → IsFine old seals plain
+  fine_on : (plain : ℕ → InPlain) (act : Act) → IsKept reading old → IsFine old seals plain
       → Does reading seals old act new → (Rose old.disk.faults new.disk.faults → ⊥)
       → FineAfter old new seals (plain_by seals old act plain) (answered_of old act plain)
   fine_on plain (client event outcome) kept fine (meets, step) calm =
@@ -316,7 +350,7 @@ module _ {K : Type 0} (reading : Reading) (seals : Seals) (old new : State K) wh
       }
 
 module _ {K : Type 0} (reading : Reading) (seals : Seals) where
-  fine_over : (start : State K) (plain : ℕ → List ℕ) (deeds : List (Deed K))
+  fine_over : (start : State K) (plain : ℕ → InPlain) (deeds : List (Deed K))
       → IsKept reading start → IsFine start seals plain → AreDeeds reading seals start deeds
       → (state_after start deeds).disk.faults ≡ start.disk.faults
       → start.disk.faults < 2 ^ 64 - 1
@@ -352,11 +386,11 @@ exchange_served : (atom size : ℕ) (answered : Answered) (exchange : Exchange)
     (λ number. answered.reply ≡ Errno number) → MatchOption (wrong_of atom size exchange.op)
     (IsServed exchange.op exchange.reply) (λ number. exchange.reply ≡ Errno number)
 exchange_served atom size answered exchange is full = served_by (wrong_ask atom size answered.ask)
-    (wrong_asked atom size answered.ask answered.plain exchange.op is.op) full
+    (wrong_asked answered.atom atom size answered.ask answered.plain.bytes exchange.op is.op) full
   where
-    full_served : (ask : Ask) → Asked ask answered.plain exchange.op → IsFull answered ask
-        → IsServed exchange.op exchange.reply
-    full_served (Read offset len) op parts = rw (op, is.reply, parts.0) parts.1
+    full_served : (ask : Ask) → Asked answered.atom ask answered.plain.bytes exchange.op
+        → IsFull answered ask → IsServed exchange.op exchange.reply
+    full_served (Read offset len) op (bytes, content, long) = rw (op, is.reply, content) long
     full_served (Write offset len fua) (body, op, long, begins) full_so =
         meaning_served exchange.op exchange.reply (rw (op, is.reply) full_so)
     full_served Flush op full_so = rw (op, is.reply) full_so

@@ -6,11 +6,11 @@ use Rattle.std.proofs.lemmas.Bool.{MatchBool-at_false, MatchBool-at_true, cases_
 use Rattle.sector_disk.specs.DiskViews.Views.{IsOutside}
 use Rattle.segment_map.specs.declared.map.Piece.{Piece}
 use Rattle.volume_machine.specs.Events.{Event, Outcome, admits, asks, broken, device, done}
-use Rattle.volume_machine.specs.Events.{finishes, got, reads, refused, settles, writes}
+use Rattle.volume_machine.specs.Events.{fetches, finishes, got, reads, refused, settles, writes}
 use Rattle.volume_machine.specs.Pieces.{IsPieceOf, place_of}
 use Rattle.volume_machine.specs.Sound.{IsSound}
 use Rattle.volume_machine.specs.States.{State}
-use Rattle.volume_machine.specs.Steps.{IsAdmitted, ReadStep, SettleStep, WriteStep, Step}
+use Rattle.volume_machine.specs.Steps.{EdgeStep, IsAdmitted, ReadStep, SettleStep, WriteStep, Step}
 use Rattle.crash_laws.specs.HeaderAreas.Headers.{Layout}
 use Rattle.volume_laws.proofs.{Reading.piece_place, Writing.in_piece}
 use Rattle.volume_machine.proofs.NextPieces.{on_disk}
@@ -63,6 +63,13 @@ module _ {K : Type 0} {reading : Reading} {layout : Layout} {first : List ℕ} (
   read_keeps lane o broken step = rested step.rests
   read_keeps lane o _ step = absurd step
 
+  fetch_keeps : (lane : ℕ) (o : Open) (which : ℕ) (outcome : Outcome)
+      → EdgeStep old lane o which outcome new → KeepsAtom old new place
+  fetch_keeps lane o which (got bytes) step = by_call (spares_read place step.call)
+  fetch_keeps lane o which device step = by_call (spares_read place step.call)
+  fetch_keeps lane o which broken step = rested step.rests
+  fetch_keeps lane o which _ step = absurd step
+
   write_keeps : (lane : ℕ) (o : Open) (bytes : List ℕ) (outcome : Outcome)
       → o.range.end ≤ old.map.blocks → WriteStep old lane o bytes outcome new
       → KeepsAtom old new place
@@ -89,6 +96,7 @@ module _ {K : Type 0} {reading : Reading} {layout : Layout} {first : List ℕ} (
       admit_keeps lane session ask outcome _ step
   event_keeps (asks lane) outcome (has, same) = rested (ap (λ s. s.disk) same)
   event_keeps (reads lane len) outcome (o, at, step) = read_keeps lane o outcome step
+  event_keeps (fetches lane which) outcome (o, at, step) = fetch_keeps lane o which outcome step
   event_keeps (writes lane bytes) outcome (o, at, step) =
       write_keeps lane o bytes outcome (sound.under_way lane o at).inside step
   event_keeps (settles lane) outcome (o, at, step) = settle_keeps lane o outcome step

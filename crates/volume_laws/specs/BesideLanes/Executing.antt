@@ -2,6 +2,7 @@
 use Rattle.std.specs.Prelude.{ℕ, ◌≡◌, List}
 use Rattle.volume_machine.specs.Answers.{AreTagged, Tagged}
 use Rattle.volume_machine.specs.Deeds.{AreDeeds, Deed, answered_over, state_after}
+use Rattle.volume_machine.specs.Edges.{InPlain}
 use Rattle.volume_machine.specs.Readings.{Reading}
 use Rattle.volume_machine.specs.Seals.{Seals}
 use Rattle.volume_machine.specs.States.{State}
@@ -13,4 +14,4 @@ pub record ExecutesBeside {K : Type 0} (reading : Reading) (seals : Seals) (old 
     (deeds : List (Deed K)) (history : List Tagged) : Type 0 where
   pub are : AreDeeds reading seals old deeds
   pub last : state_after old deeds ≡ new
-  pub answers : (plain : ℕ → List ℕ) → AreTagged (answered_over seals old plain deeds) history
+  pub answers : (plain : ℕ → InPlain) → AreTagged (answered_over seals old plain deeds) history

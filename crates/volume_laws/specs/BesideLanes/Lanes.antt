@@ -7,6 +7,7 @@ use Rattle.volume_machine.specs.Alone.{Alone, AreMet, Call, alone_of, answers_of
 use Rattle.volume_machine.specs.Answers.{Answered}
 use Rattle.volume_machine.specs.Deeds.{Act, AreDeeds, Deed, client, plain_by, plain_over}
 use Rattle.volume_machine.specs.Deeds.{state_after, worker}
+use Rattle.volume_machine.specs.Edges.{InPlain}
 use Rattle.volume_machine.specs.Events.{lane_of}
 use Rattle.volume_machine.specs.Readings.{Reading}
 use Rattle.volume_machine.specs.Runs.{Happening, answered_by, no_plain}
@@ -28,12 +29,12 @@ calls_over lane [] = []
 calls_over lane (one ∷ rest) = call_in lane one.act ++ calls_over lane rest
 
 -- what they have answered under a lane
-abbrev pub answered_at : {K : Type 0} → ℕ → State K → Act → (ℕ → List ℕ) → List Answered
+abbrev pub answered_at : {K : Type 0} → ℕ → State K → Act → (ℕ → InPlain) → List Answered
 answered_at lane old (client event outcome) plain =
     if lane_of event == lane then answered_by old event outcome plain else []
 answered_at lane old (worker worked) plain = []
 
-unfoldable pub answered_on : {K : Type 0} → ℕ → Seals → State K → (ℕ → List ℕ) → List (Deed K)
+unfoldable pub answered_on : {K : Type 0} → ℕ → Seals → State K → (ℕ → InPlain) → List (Deed K)
     → List Answered
 answered_on lane seals old plain [] = []
 answered_on lane seals old plain (one ∷ rest) =

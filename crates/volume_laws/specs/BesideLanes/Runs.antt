@@ -3,6 +3,7 @@ use Rattle.std.specs.Prelude.{ℕ, ◌≡◌, List}
 use Rattle.volume_laws.specs.BesideLanes.Lanes.{answered_on, calls_over, deeds_of}
 use Rattle.volume_laws.specs.Lanes.{answered_under, own_calls}
 use Rattle.volume_machine.specs.Deeds.{AreDeeds, Deed, state_after}
+use Rattle.volume_machine.specs.Edges.{InPlain}
 use Rattle.volume_machine.specs.Readings.{Reading}
 use Rattle.volume_machine.specs.Runs.{Happening, IsRun, last_of}
 use Rattle.volume_machine.specs.Seals.{Seals}
@@ -16,5 +17,5 @@ pub record IsRunOf {K : Type 0} (start : State K) (seals : Seals) (deeds : List 
   pub is : (reading : Reading) → AreDeeds reading seals start deeds → IsRun start run
   pub last : last_of start run ≡ state_after start deeds
   pub calls : (lane : ℕ) → own_calls lane run ≡ calls_over lane deeds
-  pub answers : (lane : ℕ) (plain : ℕ → List ℕ)
+  pub answers : (lane : ℕ) (plain : ℕ → InPlain)
       → answered_under lane seals start plain run ≡ answered_on lane seals start plain deeds

@@ -39,12 +39,12 @@ pub fn lanes_are_alone_beside<C: SectorCipher>()
         (deeds : List (Deed (Keys C))) (event : Event) → BeginsBeside reading start →
         AreMade reading seals start deeds → AreMetBeside start seals deeds →
         IsClient start (lane_of event) →
-        MeetsAlone (alone_over start seals (lane_of event) deeds) event →
+        MeetsAlone seals (alone_over start seals (lane_of event) deeds) event →
         Meets (state_after start deeds) event }
     ensures more { (start : State (Keys C)) (seals : Seals) (deeds : List (Deed (Keys C)))
         (event : Event) (outcome : Outcome) (after : State (Keys C)) →
         AreMetBeside start seals deeds → IsClient start (lane_of event) →
-        MeetsAlone (alone_over start seals (lane_of event) deeds) event →
+        MeetsAlone seals (alone_over start seals (lane_of event) deeds) event →
         AreMetBeside start seals
         (deeds ++ record { act = client event outcome; after = after } ∷ []) }
     ensures works { (start : State (Keys C)) (seals : Seals) (deeds : List (Deed (Keys C)))

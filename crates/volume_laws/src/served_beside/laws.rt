@@ -29,9 +29,9 @@ pub fn failures_go_by_deeds<C: SectorCipher>()
 {}
 
 /// A read, a write or a flush that isn't wrong is answered 5 exactly where its admit found the volume
-/// broken, or one of its pieces or its settle answered that the device failed or the volume is broken,
-/// whoever broke it. The answer has a place exactly where it is a read's of which a piece failed so:
-/// that at which the piece begins.
+/// broken, or one of its edges, its pieces or its settle answered that the device failed or the volume
+/// is broken, whoever broke it. The answer has a place exactly where it is a read's of which a piece
+/// failed so: that of the first byte of its range in the piece.
 pub fn device_errors_are_exact<C: SectorCipher>()
     ensures reply { (reading : Reading) (seals : Seals) (start : State (Keys C))
         (earlier later : List (Deed (Keys C))) (one : Deed (Keys C)) → BeginsBeside reading start →

@@ -34,4 +34,4 @@ pub returns-in-Write-clause-goes : goal.returns-in-Write-clause-goes
 returns-in-Write-clause-goes c = λ seals.
     rw (c.reply-in-Write.ensures.next, c.reply-in-Write.ensures.is)
     (goes-finished seals c.args.self.now _ _ _ c.requires.stage (λ op alone ending. done-is
-    c.args.self.now.operation alone.plain c.if-self.false c.in-Write.is))
+    c.args.self.now.shape.atom c.args.self.now.operation alone.plain c.if-self.false c.in-Write.is))

@@ -10,11 +10,23 @@ pub unreachable-requires : goal.unreachable-requires
 unreachable-requires g c = let (map, piece, it) = told-got _ _ _ _ c.requires.told in
     c.in_default.not-Moving map piece it.awaits.moves.stage
 
-pub unseal_front-requires : goal.unseal_front-requires
-unseal_front-requires g c =
-    let here = got-here _ _ _ _ c.requires.told c.in-Moving.is in
-    let it = safe g.C.SectorCipher.sector c.args.keys.now c.requires.fits here.awaits in
-    record { known = it.known; fits = it.fits; size = here.size; front = here.within }
+pub unseal_front-requires-clause-known : goal.unseal_front-requires-clause-known
+unseal_front-requires-clause-known g c κs within =
+    (safe g.C.SectorCipher.sector c.args.keys.now c.requires.fits
+    (got-here _ _ _ _ c.requires.told c.in-Moving.is).awaits).known
+
+pub unseal_front-requires-clause-fits : goal.unseal_front-requires-clause-fits
+unseal_front-requires-clause-fits g c κs within =
+    (safe g.C.SectorCipher.sector c.args.keys.now c.requires.fits
+    (got-here _ _ _ _ c.requires.told c.in-Moving.is).awaits).fits
+
+pub unseal_front-requires-clause-size : goal.unseal_front-requires-clause-size
+unseal_front-requires-clause-size g c κs within =
+    (got-here _ _ _ _ c.requires.told c.in-Moving.is).size
+
+pub unseal_front-requires-clause-front : goal.unseal_front-requires-clause-front
+unseal_front-requires-clause-front g c κs within =
+    (got-here _ _ _ _ c.requires.told c.in-Moving.is).within
 
 pub take_in-requires : goal.take_in-requires
 take_in-requires g c =
@@ -27,7 +39,7 @@ moved-self-requires g c = let few = (safe g.C.SectorCipher.sector c.args.keys.no
     (got-here _ _ _ _ c.requires.told c.in-Moving.is).awaits).few in omega arith
 
 pub go_on-requires-clause-back : goal.go_on-requires-clause-back
-go_on-requires-clause-back g c = told-by _ c.args.self.now
+go_on-requires-clause-back g c κs within = told-by _ c.args.self.now
     _ _ c.in-Moving.map (back-got _ c.args.self.now c.take_in.new.self c.in-Moving.map
     c.in-Moving.piece c.moved-self.result c.args.buffer c.unseal_front.new.buffer c.args.len
     c.in-Moving.is c.unseal_front.ensures.front c.unseal_front.ensures.length c.take_in.ensures.only

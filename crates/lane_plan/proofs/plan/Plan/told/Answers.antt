@@ -3,7 +3,7 @@ use Rattle.lane_plan.proofs.PlanEnds.{done-where, goes-refused}
 use Rattle.lane_plan.proofs.plan.Plan.told.Goals as goal
 
 pub go_on-requires-clause-back : goal.go_on-requires-clause-back
-go_on-requires-clause-back g c =
+go_on-requires-clause-back g c κs within =
     told-by _ c.args.self.now _ _ c.in-Held.grant.map (back-held _ c.args.self.now
     c.new-self.result c.in-Held.grant c.new-self.ensures) (rw c.in-Held.is at c.requires.told)
 

@@ -19,7 +19,7 @@ moved-self-requires g c = let few = (safe g.C.SectorCipher.sector c.args.keys.no
     (written-here _ _ _ c.requires.told c.in-Moving.is)).few in omega arith
 
 pub go_on-requires-clause-back : goal.go_on-requires-clause-back
-go_on-requires-clause-back g c =
+go_on-requires-clause-back g c κs within =
     told-by _ c.args.self.now _ _ c.in-Moving.map (back-put _ c.args.self.now c.put_back.new.self
     c.in-Moving.map c.in-Moving.piece c.moved-self.result c.args.buffer c.in-Moving.is
     c.put_back.ensures.part c.put_back.ensures.same c.moved-self.ensures) c.requires.told

@@ -1,8 +1,7 @@
-use Rattle.std.proofs.Common.{◌≡◌, ◌*◌, length, sym, ap, ◌∙◌, subst, arith}
+use Rattle.std.proofs.Common.{◌≡◌, ◌+◌, ◌*◌, ◌≤◌, length, sym, ap, ◌∙◌, subst, arith}
 use Rattle.base_terms.proofs.BlockLemmas.{length-blocks_of}
-use Rattle.plain_disk.proofs.StepLemmas.{zeroed_values}
+use Rattle.plain_disk.proofs.EdgeLemmas.{zeroed_values}
 use Rattle.plain_disk.specs.Machine.{Machine}
-use Rattle.plain_disk.specs.Operations.{IsRange}
 use Rattle.plain_disk.proofs.plain_disk.PlainDisk.zero.Goals as goal
 
 pub paste_zeros-requires : goal.paste_zeros-requires
@@ -11,7 +10,7 @@ paste_zeros-requires c =
     c.self.inside.bytes.items =
     rw (← c.self.view_is)
     (ap (λ n. n * c.self.inside.atom) (length-blocks_of _ _ _) ∙ sym c.self.invariant.whole) in
-    omega (arith, size, c.requires.within)
+    omega (arith, size, c.requires)
 
 pub returns-clause-count : goal.returns-clause-count
 returns-clause-count c = length-blocks_of _ _ _
@@ -19,11 +18,11 @@ returns-clause-count c = length-blocks_of _ _ _
 
 pub returns-clause-newest : goal.returns-clause-newest
 returns-clause-newest c =
-    let range = subst (λ (machine : Machine).
-    IsRange machine.atom (length machine.newest * machine.atom) c.args.offset c.args.len)
+    let within = subst (λ (machine : Machine).
+    c.args.offset + c.args.len ≤ length machine.newest * machine.atom)
     (sym c.self.view_is) c.requires in
     rw (c.paste_zeros.ensures.items, ← c.self.view_is)
     (zeroed_values c.self.inside.atom c.self.inside.blocks c.args.offset c.args.len
     c.self.inside.bytes.items c.self.invariant.some c.self.invariant.whole
-    (subst (λ n. IsRange c.self.inside.atom (n * c.self.inside.atom) c.args.offset c.args.len)
-    (length-blocks_of _ _ _) range))
+    (subst (λ n. c.args.offset + c.args.len ≤ n * c.self.inside.atom)
+    (length-blocks_of _ _ _) within))

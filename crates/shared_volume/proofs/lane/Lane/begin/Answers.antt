@@ -15,18 +15,18 @@ turn-requires-clause-front g c = λ κs bounds.
     rw c.first.ensures (front-first c.args.plan.now)
 
 pub told-requires-clause-fits : goal.told-requires-clause-fits
-told-requires-clause-fits g c =
+told-requires-clause-fits g c = λ κs bounds.
     let (session, op, planned) = c.requires.plan in
     rw c.turn.ensures.keys (keys-fit sector_of sealed
     opened (known c.args.self.now.pass) c.args.self.now.number
     c.args.self.now.keys c.args.self.now.shape c.requires.lane c.args.plan.now planned.shape_is)
 
 pub told-requires-clause-told : goal.told-requires-clause-told
-told-requires-clause-told g c =
+told-requires-clause-told g c = λ κs bounds.
     let (session, op, planned) = c.requires.plan in
     rw c.turn.ensures.keys (begin-tells sector_of sealed
     opened (known c.args.self.now.pass) c.args.self.now.number
-    c.args.self.now.keys c.args.self.now.shape c.requires.lane c.args.cell.now.limit session
+    c.args.self.now.keys c.args.self.now.shape c.requires.lane c.args.shared.now.cell.limit session
     c.args.plan.now op (known c.turn.new.self.pass) c.in-Answered.answer c.requires.rests planned
     (rw c.first.ensures at c.in-Answered.ensures.called))
 
@@ -34,7 +34,7 @@ pub returns-in-Answered-clause-at : goal.returns-in-Answered-clause-at
 returns-in-Answered-clause-at g c = λ session op planned.
     begins-so sector_of sealed opened
     (known c.args.self.now.pass) c.args.self.now.number c.args.self.now.keys c.args.self.now.shape
-    c.requires.lane c.args.cell.now.limit session c.args.plan.now op (known c.turn.new.self.pass)
+    c.requires.lane c.args.shared.now.cell.limit session c.args.plan.now op (known c.turn.new.self.pass)
     c.in-Answered.answer c.requires.rests planned
     (rw c.first.ensures at c.in-Answered.ensures.called) c.told.new.self c.told.result
     c.turn.ensures.same c.told.ensures.shape c.told.ensures.session

@@ -16,18 +16,18 @@ turn-requires-clause-front g c = λ κs bounds.
     c.args.self.now.shape c.requires.lane session c.args.plan.now op first c.args.call way
 
 pub told-requires-clause-fits : goal.told-requires-clause-fits
-told-requires-clause-fits g c =
+told-requires-clause-fits g c = λ κs bounds.
     let (first, session, op, way) = c.requires.way in
     rw c.turn.ensures.keys (keys-fit sector_of sealed
     opened (known c.args.self.now.pass) c.args.self.now.number
     c.args.self.now.keys c.args.self.now.shape c.requires.lane c.args.plan.now way.shape_is)
 
 pub told-requires-clause-told : goal.told-requires-clause-told
-told-requires-clause-told g c =
+told-requires-clause-told g c = λ κs bounds.
     let (first, session, op, way) = c.requires.way in
     rw c.turn.ensures.keys (step-tells sector_of sealed
     opened (known c.args.self.now.pass) c.args.self.now.number
-    c.args.self.now.keys c.args.self.now.shape c.requires.lane c.args.cell.now.limit session
+    c.args.self.now.keys c.args.self.now.shape c.requires.lane c.args.shared.now.cell.limit session
     c.args.plan.now op first (known c.turn.new.self.pass) c.args.call c.in-Answered.answer
     c.requires.begun way c.in-Answered.ensures.called)
 
@@ -35,7 +35,7 @@ pub returns-in-Answered-clause-at : goal.returns-in-Answered-clause-at
 returns-in-Answered-clause-at g c = λ first session op way.
     steps-so sector_of sealed opened
     (known c.args.self.now.pass) c.args.self.now.number c.args.self.now.keys c.args.self.now.shape
-    c.requires.lane c.args.cell.now.limit session c.args.plan.now op first
+    c.requires.lane c.args.shared.now.cell.limit session c.args.plan.now op first
     (known c.turn.new.self.pass) c.args.call c.in-Answered.answer c.requires.begun way
     c.in-Answered.ensures.called c.told.new.self c.told.result c.turn.ensures.same
     c.told.ensures.shape c.told.ensures.session (rw c.turn.ensures.keys at c.told.ensures.goes)
@@ -43,7 +43,7 @@ returns-in-Answered-clause-at g c = λ first session op way.
 
 pub returns-in-Spent-clause-at : goal.returns-in-Spent-clause-at
 returns-in-Spent-clause-at g c = λ first session op way.
-    stops-so sealed opened c.args.cell.now.limit
+    stops-so sealed opened c.args.shared.now.cell.limit
     c.args.self.now.number c.args.self.now.shape c.args.plan.now session op first
     (known c.args.self.now.pass) (known c.turn.new.self.pass) c.args.call c.requires.begun way
     c.turn.ensures.same.start c.in-Spent.ensures.called.0 c.in-Spent.ensures.called.1

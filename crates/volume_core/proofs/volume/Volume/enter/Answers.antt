@@ -1,4 +1,5 @@
 use Rattle.std.proofs.Common.{arith, refl}
+use Rattle.volume_machine.proofs.Soundness.{proper-inside}
 use Rattle.volume_machine.specs.Events.{admits}
 use Rattle.volume_machine.specs.Steps.{Can}
 use Rattle.volume_core.specs.Answers.{outcome_of_admitted}
@@ -44,6 +45,15 @@ invariant_of-self g c =
       lane_is = c.set_lane.ensures;
       broken_is = refl;
     }) refl)
+
+pub invariant_of-result : goal.invariant_of-result
+invariant_of-result g c =
+    let blocks = rw (← c.self.view_is) at c.requires.blocks in
+    let ready = rw (← c.self.view_is) at c.requires.ready in
+    record {
+      inside = rw blocks
+          (proper-inside _ _ c.args.ask c.self.inside.map.some_atom ready.proper);
+    }
 
 pub returns : goal.returns
 returns g c =

@@ -1,8 +1,13 @@
-use Rattle.volume_machine.proofs.KeyLemmas.{side-whole}
+use Rattle.std.proofs.Math.Nat.{mul-mod_left}
+use Rattle.volume_machine.proofs.KeyLemmas.{side-sectors}
 use Rattle.volume_machine.proofs.keys.Keys.seal.Goals as goal
 
-pub seal_atom-requires-clause-whole : goal.seal_atom-requires-clause-whole
-seal_atom-requires-clause-whole g c =
+pub seal-requires-clause-sectors : goal.seal-requires-clause-sectors
+seal-requires-clause-sectors g c κs within =
     rw c.key.ensures
-    (side-whole g.C.SectorCipher.sector c.args.self.now c.args.atom _ _ c.args.piece.count
-    c.args.piece.side c.requires.fits c.requires.size)
+    (side-sectors g.C.SectorCipher.sector c.args.self.now c.args.atom _ c.args.piece.side
+    c.requires.fits)
+
+pub seal-requires-clause-whole : goal.seal-requires-clause-whole
+seal-requires-clause-whole g c κs within =
+    rw c.requires.size (mul-mod_left c.args.piece.count c.args.atom)
