@@ -118,4 +118,4 @@ stop() {
     server=
 }
 
-[ -x "$reencd" ] || fail "there is no program $reencd: rt ci builds it"
+[ -x "$reencd" ] || fail "there is no program $reencd: make build makes it"

@@ -77,7 +77,7 @@ refuses volume.img long "8 fault 8 NoFit reencd: long: 513 bytes, and a passphra
 reencd: the key file has more than 512 bytes, and a passphrase has 1 to 512"
 refuses volume.img missing "2 fault 2 Device reencd: missing: No such file or directory"
 truncate -s 20M zeros.img
-refuses zeros.img key "3 fault 3 NoHeader reencd: header: primary: Magic; secondary: Magic"
+refuses zeros.img key "3 fault 3 NoHeader reencd: no LUKS2 header is found (primary: Magic; secondary: Magic)"
 truncate -s 32M slow.img
 cryptsetup luksFormat --batch-mode --type luks2 --pbkdf argon2id --pbkdf-force-iterations 4 --pbkdf-memory 32 \
     --pbkdf-parallel 1 slow.img key || fail luksFormat

@@ -172,7 +172,7 @@ refuses "8 fault 8 NoFit reencd: no room in the header's keyslots area: 258048 b
 refuses "5 fault 5 NoKey reencd: the passphrase opens no keyslot; slot 0: it holds no key of the volume under this passphrase" idle.img --key-file other
 refuses "8 fault 8 NoFit reencd: the key file has no byte, and a passphrase has 1 to 512" idle.img --key-file /dev/null
 refuses "2 fault 2 Device reencd: missing: No such file or directory" idle.img --key-file missing
-refuses "3 fault 3 NoHeader reencd: header: primary: Magic; secondary: Magic" before.img --key-file key
+refuses "3 fault 3 NoHeader reencd: no LUKS2 header is found (primary: Magic; secondary: Magic)" before.img --key-file key
 
 # Both copies of the header on DISK are changed: a token of so many letters, or their number.
 changed() {

@@ -55,7 +55,7 @@ mkdir folder
     helps "Convert a volume to the end of its conversion" resume --help
     refuses 2 "fault 2 Device" "reencd: missing.img: No such file or directory" resume missing.img --key-file key
     refuses 2 "fault 2 Device" "reencd: missing: No such file or directory" resume disk.img --key-file missing
-    refuses 3 "fault 3 NoHeader" "reencd: header: primary: Magic; secondary: Magic" resume disk.img --key-file /dev/null
+    refuses 3 "fault 3 NoHeader" "reencd: no LUKS2 header is found (primary: Magic; secondary: Magic)" resume disk.img --key-file /dev/null
     refuses 2 "fault 2 Device" "reencd: missing.img: No such file or directory" $(plain missing.img unix:sock)
     refuses 2 "fault 2 Device" "reencd: folder: Is a directory" $(plain folder unix:sock)
     refuses 8 "fault 8 NoFit" "reencd: small.img: the last 511 bytes aren't used: no whole atom of 512 bytes

@@ -219,7 +219,7 @@ cp random.img idle.img
 "$reencd" format idle.img --key-file key --iterations 1000 >/dev/null || fail "format"
 cp idle.img begun.img
 "$reencd" init begun.img --key-file key --iterations 1000 >/dev/null || fail "init"
-refuses "3 fault 3 NoHeader reencd: header: primary: Magic; secondary: Magic" random.img --key-file key
+refuses "3 fault 3 NoHeader reencd: no LUKS2 header is found (primary: Magic; secondary: Magic)" random.img --key-file key
 refuses "6 fault 6 WrongState reencd: nothing is being converted" idle.img --key-file /dev/null
 refuses "8 fault 8 NoFit reencd: the key file has no byte, and a passphrase has 1 to 512" begun.img --key-file /dev/null
 refuses "2 fault 2 Device reencd: missing: No such file or directory" begun.img --key-file missing

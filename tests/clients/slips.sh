@@ -171,7 +171,7 @@ if device=$(losetup -f --show whole.img 2>/dev/null); then
             # shellcheck disable=SC2086
             keeps "$device" 2 "fault 2 Device" "reencd: $device: device in use, mounted at $room/mounted" $words
         done
-        says 3 "fault 3 NoHeader" "reencd: header: primary: Magic" status "$device"
+        says 3 "fault 3 NoHeader" "reencd: no LUKS2 header is found (primary: Magic" status "$device"
         umount mounted
     else
         echo "skipped: nothing can be mounted"
@@ -318,8 +318,18 @@ serve_by good.img --key-file key --atom 4096
 keeps good.img 2 "$device" "reencd: good.img: locked by another process" init good.img --key-file key
 says 2 "$device" "reencd: 127.0.0.1:$port: Address already in use" serve disk.img --plain --listen "127.0.0.1:$port"
 stop TERM
-says 3 "fault 3 NoHeader" "reencd: header: primary: Magic; secondary: Magic" status disk.img
+says 3 "fault 3 NoHeader" "reencd: no LUKS2 header is found (primary: Magic; secondary: Magic)" status disk.img
 keeps good.img 5 "fault 5 NoKey" "the passphrase opens no keyslot" init good.img --key-file key2
+grep -q 'line feed' err && fail "a line feed is seen where there is none: $(cat err)"
+printf 'a passphrase\n' >fed
+fed="reencd: fed: it ends with a line feed, which is part of the passphrase"
+keeps good.img 5 "fault 5 NoKey" "$fed" init good.img --key-file fed
+keeps begun.img 5 "fault 5 NoKey" "$fed" serve begun.img --key-file fed --listen unix:sock
+keeps begun.img 5 "fault 5 NoKey" "reencd: the old key: the passphrase opens no keyslot; slot 0: it holds no key of the volume under this passphrase; slot 1: it isn't bound to this key" \
+    resume begun.img --key-file key2
+# (a pipe is read once)
+keeps good.img 5 "fault 5 NoKey" "the passphrase opens no keyslot" init good.img --key-file <(cat fed)
+grep -q 'line feed' err && fail "a pipe is read once more: $(cat err)"
 keeps good.img 6 "fault 6 WrongState" "nothing is being converted" resume good.img --key-file key
 keeps begun.img 6 "fault 6 WrongState" "a conversion is under way" init begun.img --key-file key
 keeps good.img 8 "fault 8 NoFit" "512" serve good.img --key-file empty --listen unix:sock

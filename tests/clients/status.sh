@@ -32,9 +32,9 @@ for header in "$here"/../data/headers/*.header; do
 done
 
 truncate -s 20M zeros.img
-refuses zeros.img "3 fault 3 NoHeader reencd: header: primary: Magic; secondary: Magic"
+refuses zeros.img "3 fault 3 NoHeader reencd: no LUKS2 header is found (primary: Magic; secondary: Magic)"
 truncate -s 8192 short.img
-refuses short.img "3 fault 3 NoHeader reencd: header: primary: Magic; secondary: Size 0"
+refuses short.img "3 fault 3 NoHeader reencd: no LUKS2 header is found (primary: Magic; secondary: Size 0)"
 refuses missing.img "2 fault 2 Device reencd: missing.img: No such file or directory"
 printf 'X' | dd of=stored.img bs=1 seek=5000 conv=notrunc status=none
 "$reencd" status stored.img >out 2>err </dev/null

@@ -167,8 +167,9 @@ where
 
 /// Runs the command that the words behind the program's name ask for, and prints what it says: of
 /// `format` `formatted U`, of `init` `started reencrypt DIRECTION RESILIENCE`, of `resume` `finished N
-/// blocks`, of `serve` `served S sessions`, of `status` what the header of a disk says, and of one
-/// that is refused `fault N NAME` with the status and the cause. `docs/CLI.md` has the words.
+/// blocks`, of `serve` `served S sessions`, of `status` what the header of a disk says, of `demo` what
+/// its clients wrote and read, and of one that is refused `fault N NAME` with the status and the cause.
+/// `docs/CLI.md` has the words.
 ///
 /// Before each step of a conversion the gate is told how far it is. Whatever serves no client is done by
 /// [`run_alone`], which doesn't wait.
@@ -194,13 +195,17 @@ where
 /// header that converts nothing. Where the disk told its bytes, and they stood for a content under the
 /// passphrase, each image that a stop leaves of the opening or of the worker stands for that content,
 /// whatever the conversion ended with, and at its end each block holds it. Each cause has its reason.
+/// `demo` does what `format`, `init` and `serve` do on a disk in memory, for clients of its own: where it
+/// is fine each of their requests was served, every block is new and holds what was written, and the
+/// digest that is told is that of these blocks.
 /// No conversion is begun, led on or served of a volume where bytes that may be sectors of it lie behind
 /// the last whole atom of its disk. None is begun where several keyslots hold the volume's key, unless
 /// the others may go. These are refused before anything is written. The bay is asked once for the disk,
 /// once for the header's and once for a key file, each where the words name one, and for clients once
 /// for the links, and for nothing else. The text changes the cause only where all was fine: to `Output`
 /// where it can't be put and pushed out, to `Memory` where memory is wanted for it. Words that ask for
-/// nothing leave the bay as it was, and those of other commands than `format` and `init` the seeds.
+/// nothing, or for `demo`, leave the bay as it was, and those of other commands than `format` and `init`
+/// the seeds.
 pub fn run<'w, W: Threads + Wait + Sync, B: Bay, R: Seeds, O: Sink, G: Gate + Sync>(
     rt: &W,
     alloc: Global,

@@ -1,7 +1,7 @@
 // Why a volume isn't opened, for people.
 
+use crate::header_text::HeaderText;
 use crate::volume_refusal::VolumeRefusal;
-use header_report::FaultText;
 use luks_slots::{Refusal as SlotRefusal, SlotFault, SlotKind};
 use reenc_recovery::OpenCause;
 use resume_disk::{ConversionCause, Refusal as ResumeRefusal};
@@ -31,14 +31,10 @@ struct UnopenedText<'a>(&'a OpeningRefusal);
 impl fmt::Display for UnopenedText<'_> {
     fn fmt<W: fmt::Write>(&self, f: &mut fmt::Formatter<W>) -> fmt::Result {
         match self.0 {
-            OpeningRefusal::Header(fault) => write!(f, "header: {}", FaultText(fault)),
+            OpeningRefusal::Header(fault) => write!(f, "{}", HeaderText(fault)),
             OpeningRefusal::InProgress => write!(f, "a conversion is under way"),
             OpeningRefusal::Passphrase(length) => write!(f, "{}", LengthText(*length)),
-            OpeningRefusal::Slots(fault) => write!(
-                f,
-                "{}",
-                SlotsText(fault, "the volume's digest")
-            ),
+            OpeningRefusal::Slots(fault) => write!(f, "{}", SlotsText(fault, "the volume's key")),
             OpeningRefusal::Opening(cause) => write!(f, "{}", OpeningText(cause)),
         }
     }
@@ -51,11 +47,11 @@ struct UnresumedText<'a>(&'a ResumeRefusal);
 impl fmt::Display for UnresumedText<'_> {
     fn fmt<W: fmt::Write>(&self, f: &mut fmt::Formatter<W>) -> fmt::Result {
         match self.0 {
-            ResumeRefusal::Header(fault) => write!(f, "header: {}", FaultText(fault)),
+            ResumeRefusal::Header(fault) => write!(f, "{}", HeaderText(fault)),
             ResumeRefusal::Idle => write!(f, "{IDLE}"),
             ResumeRefusal::Passphrase(length) => write!(f, "{}", LengthText(*length)),
             ResumeRefusal::Slots(side, fault) => {
-                write!(f, "{}: {}", key_of(*side), SlotsText(fault, "its digest"))
+                write!(f, "{}: {}", key_of(*side), SlotsText(fault, "this key"))
             }
             ResumeRefusal::Tail(bytes) => {
                 write!(f, "the last {bytes} bytes of the disk are in no whole atom")
@@ -121,7 +117,7 @@ impl fmt::Display for ConversionText<'_> {
     }
 }
 
-/// Why the keyslots give no key of this digest: of each why it gives none.
+/// Why the keyslots don't give the key that is called so: of each why it doesn't.
 #[derive(Clone, Copy)]
 struct SlotsText<'a>(&'a SlotFault, &'static str);
 
@@ -142,14 +138,14 @@ impl fmt::Display for SlotsText<'_> {
     }
 }
 
-/// Why a keyslot gives no key of this digest.
+/// Why a keyslot doesn't give the key that is called so.
 #[derive(Clone, Copy)]
 struct SlotText(SlotRefusal, &'static str);
 
 impl fmt::Display for SlotText {
     fn fmt<W: fmt::Write>(&self, f: &mut fmt::Formatter<W>) -> fmt::Result {
         match self.0 {
-            SlotRefusal::NotAssigned => write!(f, "it isn't one of {}", self.1),
+            SlotRefusal::NotAssigned => write!(f, "it isn't bound to {}", self.1),
             SlotRefusal::Priority => write!(f, "it is to be ignored"),
             SlotRefusal::Unsupported(kind) => write!(f, "{}", UnsupportedText(kind)),
             SlotRefusal::DigestDiffers => {

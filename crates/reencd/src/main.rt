@@ -3,6 +3,7 @@
 //! itself. Everything that matters is in the libraries.
 #![tactic(auto)]
 
+mod line_feed;
 mod notices;
 mod unsupported;
 
@@ -10,6 +11,7 @@ use file_disk::FileSystem;
 use gates::Gate;
 use host_edge::{HostBay, Network, ProgressGate, keep_standard_streams};
 use io_edge::{OsSeeds, Seeds, Sink, StdSink};
+use line_feed::tell_line_feed;
 use notices::{Reason, explain};
 use reenc_tool::{Cause, Ended, Failing, asked_help, run};
 use std::alloc::Global;
@@ -51,6 +53,13 @@ fn main(rt: HostRuntime) -> ExitCode {
         &gate,
     );
     explain(rt.alloc(), rt.stderr(), &told);
+    tell_line_feed(
+        &rt,
+        rt.alloc(),
+        rt.stderr(),
+        words.as_slice(),
+        told.refusal.as_ref(),
+    );
     tell_name(
         &rt,
         rt.alloc(),

@@ -1,5 +1,5 @@
 use reenc_tool::{
-    Cause, Failing, FaultText, Fit, OpeningRefusal, RefusalText, ResumeRefusal, StoreFault,
+    Cause, Failing, Fit, HeaderText, OpeningRefusal, RefusalText, ResumeRefusal, StoreFault,
     VolumeRefusal, explain_words,
 };
 use std::alloc::Global;
@@ -160,7 +160,7 @@ fn explain_clash(alloc: Global, errors: Stderr, block: u64, digest: [u8; 32]) {
 /// Says in one line what is wrong with a header, or why a volume isn't opened.
 fn explain_volume(errors: Stderr, reason: &Reason<'_>) {
     if let Some(fault) = &reason.fault {
-        let _ = eprintln!(errors; "reencd: header: {}", FaultText(fault));
+        let _ = eprintln!(errors; "reencd: {}", HeaderText(fault));
     }
     if let Some(refusal) = &reason.refusal {
         let _ = eprintln!(errors; "reencd: {}", RefusalText(refusal));
