@@ -11,8 +11,7 @@ reencd serve volume.img --key-file key --listen unix:nbd --workers 8 --sessions 
 while kill -0 $! && ! grep -qs listening said; do sleep 0.1; done
 fio --name=load --ioengine=nbd --uri="nbd+unix:///?socket=nbd" --numjobs=4 \
     --size=$PART --offset_increment=$PART --rw=randrw --bs=64k --iodepth=4 --verify=crc32c \
-    --verify_state_save=0 >load && echo verified
-wait $!
-tail -n 1 said
+    --verify_state_save=0 >load && echo verified || kill $!
+wait $!; tail -n 1 said
 cat done
 reencd status volume.img | grep -e state -e live
